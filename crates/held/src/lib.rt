@@ -108,14 +108,13 @@ fn padded_held(from: &[u8], n: usize, bytes: &[u8], at: usize) -> bool
 
 // The numbers of residues and brackets, the letters and the sections?
 fn front_held(
-    letters: &[u8],
-    sections: &[u8],
+    sheet: &Sheet,
     residues: usize,
     brackets: usize,
     bytes: &[u8],
 ) -> bool
-    requires { FrontFits letters.now sections.now residues brackets bytes.now }
-    ensures { Tells result (FrontHeld (counts_row residues brackets) (take residues letters.now) (take residues sections.now) bytes.now) }
+    requires { FrontFits sheet.now.letters sheet.now.sections residues brackets bytes.now }
+    ensures { Tells result (FrontHeld (counts_row residues brackets) (take residues sheet.now.letters) (take residues sheet.now.sections) bytes.now) }
 {
     (areas::residues(bytes) == residues)
         & (areas::brackets(bytes) == brackets)
@@ -151,8 +150,7 @@ fn fields_held(
 // Row m as part j of bracket k: its fields, its text and its label behind the texts seen, and its mass.
 fn part_held(
     line: &[u8],
-    parts: &[u16],
-    masses: &[i64],
+    sheet: &Sheet,
     m: usize,
     k: usize,
     j: usize,
@@ -160,20 +158,19 @@ fn part_held(
     numbers: &[i64],
     seen: Seen,
 ) -> Seen
-    requires { RowFits line.now parts.now masses.now m k j seen.texts bytes.now numbers.now }
-    ensures { PartSeen line.now parts.now masses.now m k j bytes.now numbers.now seen result }
+    requires { RowFits line.now sheet.now.parts sheet.now.masses m k j seen.texts bytes.now numbers.now }
+    ensures { PartSeen line.now sheet.now.parts sheet.now.masses m k j bytes.now numbers.now seen result }
 {
-    if store::is_composition(parts, m) {
-        return composition_held(line, parts, masses, m, k, j, bytes, numbers, seen);
+    if store::is_composition(sheet, m) {
+        return composition_held(line, sheet, m, k, j, bytes, numbers, seen);
     }
-    noted_held(line, parts, masses, m, k, j, bytes, numbers, seen)
+    noted_held(line, sheet, m, k, j, bytes, numbers, seen)
 }
 
 // The same of a composition: its short text is put into an array, and compared there.
 fn composition_held(
     line: &[u8],
-    parts: &[u16],
-    masses: &[i64],
+    sheet: &Sheet,
     m: usize,
     k: usize,
     j: usize,
@@ -181,16 +178,16 @@ fn composition_held(
     numbers: &[i64],
     seen: Seen,
 ) -> Seen
-    requires { ComposedFits line.now parts.now masses.now m k j seen.texts bytes.now numbers.now }
-    ensures { PartSeen line.now parts.now masses.now m k j bytes.now numbers.now seen result }
+    requires { ComposedFits line.now sheet.now.parts sheet.now.masses m k j seen.texts bytes.now numbers.now }
+    ensures { PartSeen line.now sheet.now.parts sheet.now.masses m k j bytes.now numbers.now seen result }
 {
     let t = seen.texts;
-    let label = sheet::label_from(parts, m);
-    let l = sheet::label_to(parts, m) - label;
-    let c = store::composition(line, parts, m);
+    let label = sheet.label_from(m);
+    let l = sheet.label_to(m) - label;
+    let c = store::composition(line, sheet, m);
     let n = c.size;
     let mut short = [0u8; Tables::TEXT];
-    store::put_composition(line, parts, m, &mut short, n);
+    store::put_composition(line, sheet, m, &mut short, n);
     let offset = store::offset_of(n + l, t);
     let so = fields_held(
         Cutting::VALUE,
@@ -214,8 +211,7 @@ fn composition_held(
 // The same of any other part: as it is noted.
 fn noted_held(
     line: &[u8],
-    parts: &[u16],
-    masses: &[i64],
+    sheet: &Sheet,
     m: usize,
     k: usize,
     j: usize,
@@ -223,18 +219,18 @@ fn noted_held(
     numbers: &[i64],
     seen: Seen,
 ) -> Seen
-    requires { NotedFits line.now parts.now masses.now m k j seen.texts bytes.now numbers.now }
-    ensures { PartSeen line.now parts.now masses.now m k j bytes.now numbers.now seen result }
+    requires { NotedFits line.now sheet.now.parts sheet.now.masses m k j seen.texts bytes.now numbers.now }
+    ensures { PartSeen line.now sheet.now.parts sheet.now.masses m k j bytes.now numbers.now seen result }
 {
     let t = seen.texts;
-    let text = sheet::text_from(parts, m);
-    let n = sheet::text_to(parts, m) - text;
-    let label = sheet::label_from(parts, m);
-    let l = sheet::label_to(parts, m) - label;
+    let text = sheet.text_from(m);
+    let n = sheet.text_to(m) - text;
+    let label = sheet.label_from(m);
+    let l = sheet.label_to(m) - label;
     let offset = store::offset_of(n + l, t);
-    let value = sheet::value_of(parts, m);
-    let key = sheet::key_of(parts, m);
-    let decimals = sheet::decimals_of(parts, m);
+    let value = sheet.value_of(m);
+    let key = sheet.key_of(m);
+    let decimals = sheet.decimals_of(m);
     let so = fields_held(value, key, decimals, n, l, offset, k, j, bytes)
         & same_bytes(line, text, n, bytes, Tables::TEXTS + t)
         & same_bytes(line, label, l, bytes, Tables::TEXTS + t + n)
@@ -248,29 +244,28 @@ fn noted_held(
 // ---- a bracket
 
 // The head of bracket k?
-fn head_held(heads: &[u16], k: usize, bytes: &[u8]) -> bool
-    requires { (heads_room ≤ length heads.now) × (k < bracket_limit) × (bytes_size ≤ length bytes.now) }
-    ensures { Tells result (At bytes.now (row_at k) (head_from heads.now k)) }
+fn head_held(sheet: &Sheet, k: usize, bytes: &[u8]) -> bool
+    requires { (heads_room ≤ length sheet.now.heads) × (k < bracket_limit) × (bytes_size ≤ length bytes.now) }
+    ensures { Tells result (At bytes.now (row_at k) (head_from sheet.now.heads k)) }
 {
-    (areas::kind(bytes, k) == sheet::kind_of(heads, k))
-        & (areas::first(bytes, k) == sheet::first_of(heads, k))
-        & (areas::last(bytes, k) == sheet::last_of(heads, k))
-        & (areas::count(bytes, k) == sheet::count_of(heads, k))
-        & (areas::parts(bytes, k) == sheet::parts_of(heads, k))
-        & (areas::score(bytes, k) == sheet::score_of(heads, k))
+    (areas::kind(bytes, k) == sheet.kind_of(k))
+        & (areas::first(bytes, k) == sheet.first_of(k))
+        & (areas::last(bytes, k) == sheet.last_of(k))
+        & (areas::count(bytes, k) == sheet.count_of(k))
+        & (areas::parts(bytes, k) == sheet.parts_of(k))
+        & (areas::score(bytes, k) == sheet.score_of(k))
 }
 
 // What bracket k has beside its n parts: its head, zeros for the parts that it lacks, its score?
 fn frame_held(
-    heads: &[u16],
-    scores: &[i64],
+    sheet: &Sheet,
     k: usize,
     n: usize,
     bytes: &[u8],
     numbers: &[i64],
 ) -> bool
-    requires { FrameFits heads.now scores.now k n bytes.now numbers.now }
-    ensures { Tells result (FrameHeld heads.now scores.now k n bytes.now numbers.now) }
+    requires { FrameFits sheet.now.heads sheet.now.scores k n bytes.now numbers.now }
+    ensures { Tells result (FrameHeld sheet.now.heads sheet.now.scores k n bytes.now numbers.now) }
 {
     let lacking = Tables::PARTS - n;
     let behind = Tables::ROWS + k * Tables::ROW + Tables::HEAD + n * Tables::PART;
@@ -311,22 +306,19 @@ fn places_held(line: &[u8], at: usize, n: usize, k: usize, bytes: &[u8]) -> bool
 // Bracket k: what it has beside its parts, and each part.
 fn bracket_held(
     line: &[u8],
-    heads: &[u16],
-    parts: &[u16],
-    masses: &[i64],
-    scores: &[i64],
+    sheet: &Sheet,
     k: usize,
     bytes: &[u8],
     numbers: &[i64],
     seen: Seen,
 ) -> Seen
-    requires { (b : Bracket ℕ) × BracketThere line.now heads.now parts.now masses.now scores.now k seen.texts b bytes.now numbers.now }
-    ensures { (b : Bracket ℕ) → BracketThere line.now heads.now parts.now masses.now scores.now k seen.texts b bytes.now numbers.now → BracketSeen k b bytes.now numbers.now seen result }
+    requires { (b : Bracket ℕ) × BracketThere line.now sheet.now.heads sheet.now.parts sheet.now.masses sheet.now.scores k seen.texts b bytes.now numbers.now }
+    ensures { (b : Bracket ℕ) → BracketThere line.now sheet.now.heads sheet.now.parts sheet.now.masses sheet.now.scores k seen.texts b bytes.now numbers.now → BracketSeen k b bytes.now numbers.now seen result }
 {
-    let m = sheet::base_of(heads, k);
-    let n = sheet::parts_of(heads, k);
-    let at = sheet::places_of(heads, k);
-    let many = sheet::many_of(heads, k);
+    let m = sheet.base_of(k);
+    let n = sheet.parts_of(k);
+    let at = sheet.places_of(k);
+    let many = sheet.many_of(k);
     let so = frame_held(heads, scores, k, n, bytes, numbers)
         & places_held(line, at, many, k, bytes);
     let mut upto = Seen {
@@ -335,7 +327,7 @@ fn bracket_held(
     };
     let mut j: usize = 0;
     while j < n {
-        upto = part_held(line, parts, masses, m + j, k, j, bytes, numbers, upto);
+        upto = part_held(line, sheet, m + j, k, j, bytes, numbers, upto);
         j += 1;
     }
     upto
@@ -357,18 +349,13 @@ fn rest_held(n: usize, t: usize, bytes: &[u8], numbers: &[i64]) -> bool
 // Do the areas hold the tables of an accepted line, which is noted in the sheet?
 pub fn holds(
     line: &[u8],
-    letters: &[u8],
-    sections: &[u8],
-    heads: &[u16],
-    parts: &[u16],
-    masses: &[i64],
-    scores: &[i64],
+    sheet: &Sheet,
     residues: usize,
     brackets: usize,
     bytes: &[u8],
     numbers: &[i64],
 ) -> bool
-    requires { ((l : Line ℕ) × LineNoted line.now letters.now sections.now heads.now parts.now masses.now scores.now residues brackets l) × (bytes_size ≤ length bytes.now) × (numbers_size ≤ length numbers.now) }
+    requires { ((l : Line ℕ) × LineNoted line.now sheet.now residues brackets l) × (bytes_size ≤ length bytes.now) × (numbers_size ≤ length numbers.now) }
     ensures { result ≡ reads_to (outcome line.now) (take bytes_size bytes.now) (take numbers_size numbers.now) }
 {
     let mut seen = Seen {
@@ -377,7 +364,7 @@ pub fn holds(
     };
     let mut k: usize = 0;
     while k < brackets {
-        seen = bracket_held(line, heads, parts, masses, scores, k, bytes, numbers, seen);
+        seen = bracket_held(line, sheet, k, bytes, numbers, seen);
         k += 1;
     }
     seen.so & rest_held(brackets, seen.texts, bytes, numbers)

@@ -58,7 +58,7 @@ at_first line o s h e =
 
 -- what the next part asks
 pub fits : (line : List ℕ) (o : Opening) (at : ℕ) (s : Parts) (parts : List ℕ) (masses : List ℤ) → BracketFits line o → Sofar line o at s parts masses
-    → NextFits line at o.refers o.labels o.room o.base s parts masses
+    → NextFits line at o.refers o.labels o.room o.base s
 fits line o at s parts masses f w =
     record {
       short = f.short;
@@ -66,8 +66,6 @@ fits line o at s parts masses f w =
       few = w.few;
       few_labels = few_labelled line o.least s w.found w.are;
       with_labels = f.with_labels;
-      parts_room_is = omega (arith, w.grows.parts_long, f.parts_room_is);
-      masses_room_is = omega (arith, w.grows.masses_long, f.masses_room_is);
       base_low = f.base_low;
       base_room = f.base_room;
     }

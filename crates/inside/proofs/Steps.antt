@@ -38,9 +38,9 @@ use Rattle.inside.proofs.Reading.{reached, behind_label, a_part}
 
 -- ---- what the calls ask
 -- there is room for a part that is stored
-pub stored_fits : (line : List ℕ) (at : ℕ) (refers labels room : Bool) (base : ℕ) (s : Parts) (parts : List ℕ) (masses : List ℤ) → NextFits line at refers labels room base s parts masses
+pub stored_fits : (line : List ℕ) (at : ℕ) (refers labels room : Bool) (base : ℕ) (s : Parts) → NextFits line at refers labels room base s
     → (stored : Bool) → stored ≡ (room && ltb s.count part_limit) → stored ≡ true → base + s.count < masses_room
-stored_fits line at refers labels room base s parts masses f stored e t =
+stored_fits line at refers labels room base s f stored e t =
     let b = both_of room (ltb s.count part_limit) (sym e ∙ t) in
     let r = f.base_room b.0 in
     omega (arith, ltb-true s.count part_limit b.1)
@@ -53,11 +53,11 @@ module _ (line : List ℕ) (at : ℕ) (v : Value) (q : Part ℕ) (i : IsValue li
   value_places = (omega (arith, i.from_inside), omega (arith, i.within))
 
 -- the label of a part asks what its value has left
-pub label_asked : (line : List ℕ) (at : ℕ) (refers labels room : Bool) (base : ℕ) (s : Parts) (parts : List ℕ) (masses : List ℤ) → NextFits line at refers labels room base s parts masses
-    → (v : Value) (q : Part ℕ) → IsValue line at v q → (stored so : Bool) (m least : ℕ) (t : Parts) (parts' : List ℕ) → stored ≡ (room && ltb s.count part_limit) → m ≡ base + s.count
-    → so ≡ (ltb v.to (length line) && (eqb (get_or line v.to 0) hash && labels)) → so ≡ true → t ≡ with_value s v least → length parts' ≡ length parts
-    → LabelFits line at v.to stored m t parts'
-label_asked line at refers labels room base s parts masses f v q i stored so m least t parts' es em eo to et el =
+pub label_asked : (line : List ℕ) (at : ℕ) (refers labels room : Bool) (base : ℕ) (s : Parts) → NextFits line at refers labels room base s
+    → (v : Value) (q : Part ℕ) → IsValue line at v q → (stored so : Bool) (m least : ℕ) (t : Parts) → stored ≡ (room && ltb s.count part_limit) → m ≡ base + s.count
+    → so ≡ (ltb v.to (length line) && (eqb (get_or line v.to 0) hash && labels)) → so ≡ true → t ≡ with_value s v least
+    → LabelFits line at v.to stored m t
+label_asked line at refers labels room base s f v q i stored so m least t es em eo to et =
     let within = ltb-true v.to (length line) (and_left (ltb v.to (length line)) (eqb (get_or line v.to 0) hash && labels) (sym eo ∙ to)) in
     let same : t.labels ≡ s.labels = ap (λ z. z.labels) et in
     record {
@@ -65,11 +65,10 @@ label_asked line at refers labels room base s parts masses f v q i stored so m l
       past = i.past;
       within = within;
       few_labels = omega (arith, f.few_labels, f.few, f.within, f.short);
-      parts_room_is = omega (arith, f.parts_room_is);
-      row = λ e. let h = stored_fits line at refers labels room base s parts masses f stored es e in omega arith;
+      row = λ e. let h = stored_fits line at refers labels room base s f stored es e in omega arith;
     }
 
-module _ (line : List ℕ) (part at : ℕ) (stored : Bool) (m : ℕ) (s : Parts) (parts : List ℕ) (f : LabelFits line part at stored m s parts) (r : Named) (v : ReadsLabel line (at + 1) r) where
+module _ (line : List ℕ) (part at : ℕ) (stored : Bool) (m : ℕ) (s : Parts) (f : LabelFits line part at stored m s) (r : Named) (v : ReadsLabel line (at + 1) r) where
   pub label_found : LabelFound line part r
   label_found =
       record {
@@ -124,16 +123,16 @@ module _ (line : List ℕ) (o : Opening) (at : ℕ) (s : Parts) (parts : List �
 
 -- ---- the label of the last part
 module _ (line : List ℕ) (o : Opening) (part at shut : ℕ) (stored : Bool) (m : ℕ) (reference : Bool) (s : Parts) (before : List (Part ℕ)) (q : Part ℕ) (parts : List ℕ) (masses : List ℤ)
-    (a : AtLabel line o part at shut stored m reference s before q parts masses) (f : LabelFits line part at stored m s parts) where
+    (a : AtLabel line o part at shut stored m reference s before q parts masses) (f : LabelFits line part at stored m s) where
   bare_row : part_note q ≡ value_code q.value ∷ key_code q.key ∷ decimals_noted q.value ∷ text_from q q.value ∷ text_to q q.value ∷ 0 ∷ 0 ∷ []
   bare_row =
       ap (λ z. value_code q.value ∷ key_code q.key ∷ decimals_noted q.value ∷ text_from q q.value ∷ text_to q q.value ∷ given z (λ l. l.at) 0 ∷ given z (λ l. l.at + length l.name) 0 ∷ [])
       a.bare
 
   pub label_read : (r : Named) (v : ReadsLabel line (at + 1) r) (least : ℕ) (t : Parts) (parts' : List ℕ) (z : Next)
-      → parts' ≡ cond stored (sets parts (label_at m) (r.from ∷ r.to ∷ [])) parts → ((l : Label ℕ) → IsLabel line l.at r l → least ≡ lowest s.least (label_codes part l))
+      → parts_room ≤ length parts → parts' ≡ cond stored (sets parts (label_at m) (r.from ∷ r.to ∷ [])) parts → ((l : Label ℕ) → IsLabel line l.at r l → least ≡ lowest s.least (label_codes part l))
       → t ≡ with_label s r least → z ≡ behind_part line shut reference r.next t → NextPart line o part z parts' masses
-  label_read r v least t parts' z ep el et ez =
+  label_read r v least t parts' z pr ep el et ez =
       let l = v.found in
       let i = v.is_label in
       let n = labelled q l.at l.name l.score in
@@ -144,5 +143,5 @@ module _ (line : List ℕ) (o : Opening) (part at shut : ℕ) (stored : Bool) (m
       (el l (subst (λ x. IsLabel line x r l) (sym i.place) i) ∙ ap (λ x. lowest s.least (label_codes x l)) (sym a.place))
       (λ x. of_label x q a.bare l)))
       (label_stored o (before) q n parts masses a.reached.grows _ _ _ _ _ _ _ _ _ bare_row (named_row line (at + 1) r l i q) refl stored m parts'
-      a.stored_is a.number f.row f.parts_room_is ep))
+      a.stored_is a.number f.row pr ep))
       (omega (arith, i.past, f.past)) shut reference z a.shut_is a.refers ez

@@ -11,7 +11,7 @@ use Rattle.scope.specs.Content.{Context, begin, is_reference, Content, value_end
 use Rattle.scope.specs.Reading.{Held, inside, stuck}
 use Rattle.scope.specs.Layout.{mass_code, text_code, reference_code}
 use Rattle.reading_laws.proofs.Run.{rest}
-use Rattle.sheet.specs.Rows.{parts_room, masses_room}
+use Rattle.sheet.specs.Rows.{masses_room}
 use Rattle.sheet.specs.Fields.{part_row}
 use Rattle.values.specs.declared.Value.{Value}
 use Rattle.values.specs.Says.{wide_code, through}
@@ -97,24 +97,21 @@ NextPart line o at (Closed next s) parts masses = Closes line o next s parts mas
 NextPart line o at (More next s) parts masses = Sofar line o next s parts masses × (at < next)
 
 -- what reading a part asks
-pub record NextFits (line : List ℕ) (at : ℕ) (refers labels room : Bool) (base : ℕ) (s : Parts) (parts : List ℕ) (masses : List ℤ) : Type 0 where
+pub record NextFits (line : List ℕ) (at : ℕ) (refers labels room : Bool) (base : ℕ) (s : Parts) : Type 0 where
   pub short : length line ≤ line_limit
   pub within : at ≤ length line
   pub few : s.count ≤ at
   pub few_labels : s.labels ≤ s.count
   pub with_labels : refers ≡ true → labels ≡ true
-  pub parts_room_is : parts_room ≤ length parts
-  pub masses_room_is : masses_room ≤ length masses
   pub base_low : base ≤ masses_room
   pub base_room : room ≡ true → base + part_limit ≤ masses_room
 
 -- what reading its label asks: the part begins at `part`, the `#` stands at `at`, and there is room for part m where it is stored
-pub record LabelFits (line : List ℕ) (part at : ℕ) (stored : Bool) (m : ℕ) (s : Parts) (parts : List ℕ) : Type 0 where
+pub record LabelFits (line : List ℕ) (part at : ℕ) (stored : Bool) (m : ℕ) (s : Parts) : Type 0 where
   pub short : length line ≤ line_limit
   pub past : part ≤ at
   pub within : at < length line
   pub few_labels : s.labels ≤ line_limit
-  pub parts_room_is : parts_room ≤ length parts
   pub row : stored ≡ true → m < masses_room
 
 -- the part q, behind those before it, is read up to its label: it is stored as part m, or not, and is a reference or not

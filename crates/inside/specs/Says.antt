@@ -10,7 +10,7 @@ use Rattle.scope.specs.Reading.{Held, inside, outside, refers?, mode_after, with
 use Rattle.scope.specs.Modifications.{is_key, name_of}
 use Rattle.scope.specs.Tables.{score_of}
 use Rattle.reading_laws.proofs.Run.{rest}
-use Rattle.sheet.specs.Rows.{parts_room, masses_room, part_fields, part_note, mass_noted, score_noted, points_noted, AllStand}
+use Rattle.sheet.specs.Rows.{masses_room, part_fields, part_note, mass_noted, score_noted, points_noted, AllStand}
 use Rattle.dues.specs.Ranks.{lowest}
 use Rattle.dues.specs.Lines.{parts_codes}
 use Rattle.inside.specs.declared.Parts.{Parts}
@@ -40,8 +40,6 @@ pub record BracketFits (line : List ℕ) (o : Opening) : Type 0 where
   pub short : length line ≤ line_limit
   pub within : o.at ≤ length line
   pub with_labels : o.refers ≡ true → o.labels ≡ true
-  pub parts_room_is : parts_room ≤ length o.parts
-  pub masses_room_is : masses_room ≤ length o.masses
   pub base_low : o.base ≤ masses_room
   pub base_room : o.room ≡ true → o.base + part_limit ≤ masses_room
 

@@ -9,15 +9,16 @@ ghost use Rattle.scope.specs.Line.{Part, Bracket};
 ghost use Rattle.scope.specs.Keys.{key_code};
 ghost use Rattle.scope.specs.Lists.{none?};
 ghost use Rattle.scope.specs.Layout.{reference_code};
-ghost use Rattle.sheet.specs.Rows.{part_fields, parts_room, masses_room, sort_of};
+ghost use Rattle.sheet.specs.Rows.{part_fields, masses_room, sort_of};
 ghost use Rattle.sheet.specs.Fields.{label_at};
+ghost use Rattle.sheet.specs.Kept.{OnlyParts};
 ghost use Rattle.inside.specs.Says.{Opening, BracketFits, BracketSays, PartsAre};
 ghost use Rattle.inside.specs.Progress.{no_parts, with_value, with_label, behind_part, noted_code, text_place, value_row, Sofar, NextPart, NextFits, AtLabel, LabelFits};
 
 use labels::{Label, LabelAt};
 use scope::grammar::Key;
 use scope::tables::Tables;
-use sheet::Head;
+use sheet::{Head, Sheet};
 use values::{Value, ValueAt};
 
 // The parts of a bracket: how many, how many labels they have, whether all are INFO, whether the first is a reference, the score of the first label that has one (0
@@ -54,8 +55,7 @@ enum Next {
 // labels. Where there is room its first parts are stored, from part number `base` on. `least` is the first refusal due before it.
 pub fn bracket_at(
     line: &[u8],
-    parts: &mut [u16],
-    masses: &mut [i64],
+    sheet: &mut Sheet,
     at: usize,
     shut: u8,
     refers: bool,
@@ -64,13 +64,14 @@ pub fn bracket_at(
     base: usize,
     least: usize,
 ) -> BracketAt
-    requires { BracketFits line.now (record { at = at; shut = shut; refers = refers; labels = labels; room = room; base = base; least = least; parts = parts.old; masses = masses.old }) }
-    ensures { BracketSays line.now (record { at = at; shut = shut; refers = refers; labels = labels; room = room; base = base; least = least; parts = parts.old; masses = masses.old }) result parts.new masses.new }
+    requires { BracketFits line.now (record { at = at; shut = shut; refers = refers; labels = labels; room = room; base = base; least = least; parts = sheet.old.parts; masses = sheet.old.masses }) }
+    ensures says { BracketSays line.now (record { at = at; shut = shut; refers = refers; labels = labels; room = room; base = base; least = least; parts = sheet.old.parts; masses = sheet.old.masses }) result sheet.new.parts sheet.new.masses }
+    ensures others_kept { OnlyParts sheet.old sheet.new }
 {
     let mut i = at;
     let mut s = no_parts(least);
     loop {
-        match next_part(line, parts, masses, i, shut, refers, labels, room, base, s) {
+        match next_part(line, sheet, i, shut, refers, labels, room, base, s) {
             Next::Lost(p) => {
                 return BracketAt::Stuck(p);
             }
@@ -88,8 +89,7 @@ pub fn bracket_at(
 // Reads the part at `at`, behind the parts `s`.
 fn next_part(
     line: &[u8],
-    parts: &mut [u16],
-    masses: &mut [i64],
+    sheet: &mut Sheet,
     at: usize,
     shut: u8,
     refers: bool,
@@ -98,8 +98,9 @@ fn next_part(
     base: usize,
     s: Parts,
 ) -> Next
-    requires { NextFits line.now at refers labels room base s parts.old masses.old }
-    ensures { (from least : ℕ) (old : List ℕ) (masses₀ : List ℤ) → Sofar line.now (record { at = from; shut = shut; refers = refers; labels = labels; room = room; base = base; least = least; parts = old; masses = masses₀ }) at s parts.old masses.old → NextPart line.now (record { at = from; shut = shut; refers = refers; labels = labels; room = room; base = base; least = least; parts = old; masses = masses₀ }) at result parts.new masses.new }
+    requires { NextFits line.now at refers labels room base s }
+    ensures says { (from least : ℕ) (old : List ℕ) (masses₀ : List ℤ) → Sofar line.now (record { at = from; shut = shut; refers = refers; labels = labels; room = room; base = base; least = least; parts = old; masses = masses₀ }) at s sheet.old.parts sheet.old.masses → NextPart line.now (record { at = from; shut = shut; refers = refers; labels = labels; room = room; base = base; least = least; parts = old; masses = masses₀ }) at result sheet.new.parts sheet.new.masses }
+    ensures others_kept { OnlyParts sheet.old sheet.new }
 {
     let first = may_refer(refers, s.count);
     let found = values::value_at(line, at, first);
@@ -108,14 +109,15 @@ fn next_part(
         ValueAt::Read(v) => {
             let stored = has_room(room, s.count);
             let m = base + s.count;
-            store_part(parts, masses, stored, m, v);
+            sheet.sized();
+            store_part(sheet, stored, m, v);
             let due = dues::value_due(line, s.least, at, v);
             let least = dues::due_if(due, Tables::PARTS <= s.count, dues::OVER, at);
             let t = with_value(s, v, least);
             let next = v.to;
             let reference = is_reference(v.code);
             if has_label(line, next, labels) {
-                return labelled(line, parts, at, next, shut, stored, m, reference, t);
+                return labelled(line, sheet, at, next, shut, stored, m, reference, t);
             }
             behind(line, shut, next, reference, t)
         }
@@ -125,7 +127,7 @@ fn next_part(
 // Reads the label of the part at `part`, whose `#` stands at `at`; the part is stored as part m, or not.
 fn labelled(
     line: &[u8],
-    parts: &mut [u16],
+    sheet: &mut Sheet,
     part: usize,
     at: usize,
     shut: u8,
@@ -134,14 +136,16 @@ fn labelled(
     reference: bool,
     s: Parts,
 ) -> Next
-    requires { LabelFits line.now part at stored m s parts.old }
-    ensures { (o : Opening) (before : List (Part ℕ)) (q : Part ℕ) (masses : List ℤ) → AtLabel line.now o part at shut stored m reference s before q parts.old masses → NextPart line.now o part result parts.new masses }
+    requires { LabelFits line.now part at stored m s }
+    ensures says { (o : Opening) (before : List (Part ℕ)) (q : Part ℕ) → AtLabel line.now o part at shut stored m reference s before q sheet.old.parts sheet.old.masses → NextPart line.now o part result sheet.new.parts sheet.new.masses }
+    ensures others_kept { OnlyParts sheet.old sheet.new }
 {
     let found = labels::label_at(line, at + 1);
     match found {
         LabelAt::Stuck(p) => Next::Lost(p),
         LabelAt::Read(l) => {
-            store_label(parts, stored, m, l);
+            sheet.sized();
+            store_label(sheet, stored, m, l);
             let least = dues::label_due(line, s.least, part, l);
             let t = with_label(s, l, least);
             behind(line, shut, l.next, reference, t)
@@ -340,15 +344,14 @@ fn text_place(code: u8, place: usize) -> usize
 }
 
 // Part m, which has no label so far, where it is stored.
-fn store_part(parts: &mut [u16], masses: &mut [i64], stored: bool, m: usize, v: Value)
-    requires { (parts_room ≤ length parts.old) × (masses_room ≤ length masses.old) × (stored ≡ true → m < masses_room) × (v.from < wide_limit) × (v.to < wide_limit) }
-    ensures { (parts.new ≡ cond stored (sets parts.old (m * part_fields) (value_row v)) parts.old) × (masses.new ≡ cond stored (set masses.old m v.mass) masses.old) }
+fn store_part(sheet: &mut Sheet, stored: bool, m: usize, v: Value)
+    requires { (stored ≡ true → m < masses_room) × (v.from < wide_limit) × (v.to < wide_limit) }
+    ensures { sheet.new ≡ record sheet.old { parts = cond stored (sets sheet.old.parts (m * part_fields) (value_row v)) sheet.old.parts; masses = cond stored (set sheet.old.masses m v.mass) sheet.old.masses } }
 {
     if stored {
         let key = v.key;
         let mass = v.mass;
-        sheet::put_part(
-            parts,
+        sheet.put_part(
             m,
             value_code(v.code),
             words::key_code(key),
@@ -356,16 +359,16 @@ fn store_part(parts: &mut [u16], masses: &mut [i64], stored: bool, m: usize, v: 
             text_place(v.code, v.from),
             text_place(v.code, v.to),
         );
-        masses[m] = mass;
+        sheet.masses[m] = mass;
     }
 }
 
 // Its label.
-fn store_label(parts: &mut [u16], stored: bool, m: usize, l: Label)
-    requires { (parts_room ≤ length parts.old) × (stored ≡ true → m < masses_room) × (l.from < wide_limit) × (l.to < wide_limit) }
-    ensures { parts.new ≡ cond stored (sets parts.old (label_at m) (l.from ∷ l.to ∷ [])) parts.old }
+fn store_label(sheet: &mut Sheet, stored: bool, m: usize, l: Label)
+    requires { (stored ≡ true → m < masses_room) × (l.from < wide_limit) × (l.to < wide_limit) }
+    ensures { sheet.new ≡ record sheet.old { parts = cond stored (sets sheet.old.parts (label_at m) (l.from ∷ l.to ∷ [])) sheet.old.parts } }
 {
     if stored {
-        sheet::put_label(parts, m, l.from, l.to);
+        sheet.put_label(m, l.from, l.to);
     }
 }

@@ -34,23 +34,18 @@ pub fn wipe(n: usize, bytes: &mut [u8], numbers: &mut [i64])
 // An accepted line's tables, from the sheet into areas that held anything.
 fn store_anew(
     line: &[u8],
-    letters: &[u8],
-    sections: &[u8],
-    heads: &[u16],
-    parts: &[u16],
-    masses: &[i64],
-    scores: &[i64],
+    sheet: &Sheet,
     residues: usize,
     brackets: usize,
     bytes: &mut [u8],
     numbers: &mut [i64],
 )
-    requires { Stores line.now letters.now sections.now heads.now parts.now masses.now scores.now residues brackets bytes.old numbers.old }
+    requires { Stores line.now sheet.now residues brackets bytes.old numbers.old }
     ensures { Stored line.now bytes.old numbers.old bytes.new numbers.new }
 {
     store::clear(bytes, numbers);
     store::store(
-        line, letters, sections, heads, parts, masses, scores, residues, brackets, bytes, numbers,
+        line, sheet, residues, brackets, bytes, numbers,
     );
 }
 
@@ -59,20 +54,10 @@ fn read_roomy(line: &[u8], bytes: &mut [u8], numbers: &mut [i64]) -> Read
     requires { (bytes_size ≤ length bytes.old) × (numbers_size ≤ length numbers.old) }
     ensures { ReadSays line.now bytes.old numbers.old result bytes.new numbers.new }
 {
-    let mut letters = [0u8; Tables::RESIDUES];
-    let mut sections = [0u8; Tables::RESIDUES];
-    let mut heads = [0u16; Sheet::HEADS];
-    let mut parts = [0u16; Sheet::PARTS];
-    let mut masses = [0i64; Sheet::MASSES];
-    let mut scores = [0i64; Tables::BRACKETS];
+    let mut sheet = Sheet::new();
     let judged = verdict::judge(
         line,
-        &mut letters,
-        &mut sections,
-        &mut heads,
-        &mut parts,
-        &mut masses,
-        &mut scores,
+        &mut sheet,
     );
     match judged {
         Judged::Refused { number, place } => Read::Refused { number, place },
@@ -82,7 +67,7 @@ fn read_roomy(line: &[u8], bytes: &mut [u8], numbers: &mut [i64]) -> Read
             floaters: _,
         } => {
             store_anew(
-                line, &letters, &sections, &heads, &parts, &masses, &scores, residues, brackets,
+                line, &sheet, residues, brackets,
                 bytes, numbers,
             );
             Read::Accepted

@@ -241,8 +241,6 @@ module _ {line heads parts : List ℕ} {n : ℕ} {ks : List (Bracket ℕ)} (a : 
   all_legible =
       record {
         few = a.few;
-        heads_room_is = a.heads_room_is;
-        parts_room_is = a.parts_room_is;
         legible = λ k i h l. row_legible_at k (omega (arith, a.many)) i l;
         some_part = λ k h l.
             let q : k < length ks = omega (arith, a.many) in

@@ -70,13 +70,6 @@ module _ (x : List ℕ) (f : ℕ → List ℕ) (y m : ℕ) where
         rw q at s.left
 
 -- ---- which brackets are searched
-module _ (heads : List ℕ) (refers : Bool) (k : ℕ) {s : ℕ} (e : s ≡ sort_field heads k) where
-  pub side_reference : s ≡ reference_sort → refers ≡ side_is heads refers k
-  side_reference h = rw (eq-eqb (sort_field heads k) reference_sort (sym e ∙ h))
-
-  pub side_definition : (s ≡ reference_sort → ⊥) → not refers ≡ side_is heads refers k
-  side_definition h = rw (ne_eqb (sort_field heads k) reference_sort (λ z. h (e ∙ z)))
-
 module _ (line heads parts : List ℕ) (refers : Bool) where
   module _ (k : ℕ) (x : List ℕ) {c : ℕ} (e : c ≡ labels_field heads k) where
     pub side_none : c ≡ 0 → false ≡ among x (side_at line heads parts refers k)
@@ -173,19 +166,18 @@ module _ (parts : List ℕ) where
               left = rw (step, eq-eqb (label_to_field parts x) 0 (sym e ∙ g)) at s.left;
             }
 
-      pub seek_ends : last ≤ x → x ≡ labelled_from parts base m
+      pub seek_ends : last ≤ x → last ≡ labelled_from parts base m
       unfolding labelled_from
       seek_ends h =
           let q : last - x ≡ 0 = omega (arith, s.within) in
-          rw q at s.left
+          let end : last ≡ x = omega (arith, s.within) in
+          end ∙ (rw q at s.left)
 
 -- ---- what can be read
 pub legible_fewer : (line heads parts : List ℕ) (n k : ℕ) → AllLegible line heads parts n → k ≤ n → AllLegible line heads parts k
 legible_fewer line heads parts n k a h =
     record {
       few = omega (arith, a.few);
-      heads_room_is = a.heads_room_is;
-      parts_room_is = a.parts_room_is;
       legible = λ j i l g. a.legible j i (omega arith) g;
       some_part = λ j l g. a.some_part j (omega arith) g;
     }

@@ -5,7 +5,7 @@ use Rattle.scope.specs.Line.{Part, Bracket}
 use Rattle.scope.specs.Lists.{flat}
 use Rattle.scope.specs.Modifications.{only_info, is_referring, copies}
 use Rattle.basics.specs.Each.{Each, OfGiven}
-use Rattle.sheet.specs.Rows.{Noted, heads_room, parts_room}
+use Rattle.sheet.specs.Rows.{Noted}
 use Rattle.dues.specs.Ranks.{lowest}
 use Rattle.dues.specs.Lines.{ruled_codes}
 
@@ -28,8 +28,6 @@ pub record Ruled (line heads parts : List ℕ) (n : ℕ) (ks : List (Bracket ℕ
   pub masses : List ℤ
   pub scores : List ℤ
   pub noted : Noted line ks m heads parts masses scores
-  pub heads_room_is : heads_room ≤ length heads
-  pub parts_room_is : parts_room ≤ length parts
 
 -- how many copies of brackets float
 abbrev pub floating : List (Bracket ℕ) → ℕ

@@ -5,7 +5,7 @@ use Rattle.scope.specs.Kinds.{kind_code}
 use Rattle.scope.specs.Limits.{bracket_limit, copy_limit}
 use Rattle.scope.specs.Lists.{among, part, tabled}
 use Rattle.scope.specs.Refusals.{due_at}
-use Rattle.sheet.specs.Rows.{heads_room, parts_room, masses_room}
+use Rattle.sheet.specs.Rows.{masses_room}
 use Rattle.sheet.specs.Fields.{place_field, kind_field, sort_field, count_field, counted_field, parts_field, labels_field, base_field, label_from_field, label_to_field, written_count}
 use Rattle.dues.specs.Ranks.{code}
 use Rattle.dues.specs.Lines.{info_rank, declared_rank, label_rank, copies_rank}
@@ -45,8 +45,6 @@ pub record PartLegible (line parts : List ℕ) (x : ℕ) : Type 0 where
 -- what can be read of the first n brackets
 pub record AllLegible (line heads parts : List ℕ) (n : ℕ) : Type 0 where
   pub few : n ≤ bracket_limit
-  pub heads_room_is : heads_room ≤ length heads
-  pub parts_room_is : parts_room ≤ length parts
   pub legible : (k i : ℕ) → k < n → i < parts_field heads k → PartLegible line parts (base_field heads k + i)
   pub some_part : (k : ℕ) → k < n → 0 < labels_field heads k → 0 < parts_field heads k
 

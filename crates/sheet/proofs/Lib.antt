@@ -1,3 +1,4 @@
 pub mod Stores
 pub mod RowLaws
 pub mod FieldLaws
+pub mod KeptLaws

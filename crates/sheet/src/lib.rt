@@ -1,20 +1,26 @@
 // The tables in which the walk notes a line: their sizes, a reader for each field and a writer for each row. No other crate knows where a field lies.
 #![tactic(auto)]
 
-ghost use Rattle.std.specs.Prelude.{◌≡◌, [], ◌∷◌, ◌+◌, ◌*◌, ◌<◌, ◌≤◌, eqb, length, get_or, set};
+ghost use Rattle.std.specs.Prelude.{◌≡◌, [], ◌∷◌, ◌+◌, ◌*◌, ◌<◌, eqb, length, get_or, set};
 ghost use Rattle.std.proofs.lemmas.List.Edits.{sets};
 ghost use Rattle.scope.specs.Bytes.{wide_limit};
 ghost use Rattle.scope.specs.Limits.{bracket_limit};
-ghost use Rattle.sheet.specs.Rows.{head_fields, part_fields, heads_room, parts_room, masses_room};
+ghost use Rattle.sheet.specs.Rows.{head_fields, part_fields, masses_room};
+ghost use Rattle.sheet.specs.Kept.{Sized};
 ghost use Rattle.sheet.specs.Fields.{place_field, kind_field, sort_field, count_field, counted_field, first_field, last_field, parts_field, labels_field, base_field, score_field, places_field, many_field, value_field, key_field, decimals_field, text_from_field, text_to_field, label_from_field, label_to_field, kind_at, count_at, places_at, label_at, written_count, head_row, HeadFits, part_row};
 
 use scope::tables::Tables;
 
-// The sizes of the tables.
+// What is noted of a line: the letters of its residues and the codes of their sections, a row for each bracket and each part, the masses of the parts and the scores
+// of the brackets.
 #[derive(Drop)]
 pub struct Sheet {
-    pub brackets: usize,
-    pub parts: usize,
+    pub letters: [u8; Tables::RESIDUES],
+    pub sections: [u8; Tables::RESIDUES],
+    pub heads: [u16; Sheet::HEADS],
+    pub parts: [u16; Sheet::PARTS],
+    pub masses: [i64; Sheet::MASSES],
+    pub scores: [i64; Tables::BRACKETS],
 }
 
 impl Sheet {
@@ -29,6 +35,258 @@ impl Sheet {
     pub const MASSES: usize = Tables::BRACKETS * Tables::PARTS;
 
     pub const PARTS: usize = Self::MASSES * Self::PART;
+
+    // Each table has its size: a promise of the type, for proofs.
+    pub fn sized(&self)
+        ensures { Sized self.now }
+    {
+        let _letters: &[u8] = &self.letters;
+        let _sections: &[u8] = &self.sections;
+        let _heads: &[u16] = &self.heads;
+        let _parts: &[u16] = &self.parts;
+        let _masses: &[i64] = &self.masses;
+        let _scores: &[i64] = &self.scores;
+    }
+
+    // ---- bracket k
+
+    // Where it begins.
+    pub fn place_of(&self, k: usize) -> usize
+        requires { k < bracket_limit }
+        ensures { (result ≡ place_field self.now.heads k) × (result < wide_limit) }
+    {
+        number(&self.heads, k * Sheet::HEAD)
+    }
+
+    // The code of its kind.
+    pub fn kind_of(&self, k: usize) -> usize
+        requires { k < bracket_limit }
+        ensures { (result ≡ kind_field self.now.heads k) × (result < wide_limit) }
+    {
+        number(&self.heads, k * Sheet::HEAD + KIND)
+    }
+
+    // What it is: 0 only INFO, 1 an unlabelled modification, 2 a labelled one, 3 a reference.
+    pub fn sort_of(&self, k: usize) -> usize
+        requires { k < bracket_limit }
+        ensures { (result ≡ sort_field self.now.heads k) × (result < wide_limit) }
+    {
+        number(&self.heads, k * Sheet::HEAD + SORT)
+    }
+
+    // Its count.
+    pub fn count_of(&self, k: usize) -> usize
+        requires { k < bracket_limit }
+        ensures { (result ≡ count_field self.now.heads k) × (result < wide_limit) }
+    {
+        number(&self.heads, k * Sheet::HEAD + COUNT)
+    }
+
+    // Whether its count is written.
+    pub fn is_counted(&self, k: usize) -> bool
+        requires { k < bracket_limit }
+        ensures { result ≡ eqb (counted_field self.now.heads k) written_count }
+    {
+        self.heads[k * Sheet::HEAD + COUNTED] == WRITTEN
+    }
+
+    // The first position it stands on.
+    pub fn first_of(&self, k: usize) -> usize
+        requires { k < bracket_limit }
+        ensures { (result ≡ first_field self.now.heads k) × (result < wide_limit) }
+    {
+        number(&self.heads, k * Sheet::HEAD + FIRST)
+    }
+
+    // The last.
+    pub fn last_of(&self, k: usize) -> usize
+        requires { k < bracket_limit }
+        ensures { (result ≡ last_field self.now.heads k) × (result < wide_limit) }
+    {
+        number(&self.heads, k * Sheet::HEAD + LAST)
+    }
+
+    // How many parts it has.
+    pub fn parts_of(&self, k: usize) -> usize
+        requires { k < bracket_limit }
+        ensures { (result ≡ parts_field self.now.heads k) × (result < wide_limit) }
+    {
+        number(&self.heads, k * Sheet::HEAD + PARTS)
+    }
+
+    // How many labels they have.
+    pub fn labels_of(&self, k: usize) -> usize
+        requires { k < bracket_limit }
+        ensures { (result ≡ labels_field self.now.heads k) × (result < wide_limit) }
+    {
+        number(&self.heads, k * Sheet::HEAD + LABELS)
+    }
+
+    // The number of its first part.
+    pub fn base_of(&self, k: usize) -> usize
+        requires { k < bracket_limit }
+        ensures { (result ≡ base_field self.now.heads k) × (result < wide_limit) }
+    {
+        number(&self.heads, k * Sheet::HEAD + BASE)
+    }
+
+    // 0 for no score, else one more than its decimals.
+    pub fn score_of(&self, k: usize) -> usize
+        requires { k < bracket_limit }
+        ensures { (result ≡ score_field self.now.heads k) × (result < wide_limit) }
+    {
+        number(&self.heads, k * Sheet::HEAD + SCORE)
+    }
+
+    // Where its places begin in the line: 0 where it has none.
+    pub fn places_of(&self, k: usize) -> usize
+        requires { k < bracket_limit }
+        ensures { (result ≡ places_field self.now.heads k) × (result < wide_limit) }
+    {
+        number(&self.heads, k * Sheet::HEAD + PLACES)
+    }
+
+    // How many places it has.
+    pub fn many_of(&self, k: usize) -> usize
+        requires { k < bracket_limit }
+        ensures { (result ≡ many_field self.now.heads k) × (result < wide_limit) }
+    {
+        number(&self.heads, k * Sheet::HEAD + MANY)
+    }
+
+    // ---- part m
+
+    // The code of its value.
+    pub fn value_of(&self, m: usize) -> usize
+        requires { m < masses_room }
+        ensures { (result ≡ value_field self.now.parts m) × (result < wide_limit) }
+    {
+        number(&self.parts, m * Sheet::PART)
+    }
+
+    // The code of its key.
+    pub fn key_of(&self, m: usize) -> usize
+        requires { m < masses_room }
+        ensures { (result ≡ key_field self.now.parts m) × (result < wide_limit) }
+    {
+        number(&self.parts, m * Sheet::PART + KEY)
+    }
+
+    // The decimals of its mass.
+    pub fn decimals_of(&self, m: usize) -> usize
+        requires { m < masses_room }
+        ensures { (result ≡ decimals_field self.now.parts m) × (result < wide_limit) }
+    {
+        number(&self.parts, m * Sheet::PART + DECIMALS)
+    }
+
+    // Where its text begins.
+    pub fn text_from(&self, m: usize) -> usize
+        requires { m < masses_room }
+        ensures { (result ≡ text_from_field self.now.parts m) × (result < wide_limit) }
+    {
+        number(&self.parts, m * Sheet::PART + TEXT_FROM)
+    }
+
+    // The place behind its text.
+    pub fn text_to(&self, m: usize) -> usize
+        requires { m < masses_room }
+        ensures { (result ≡ text_to_field self.now.parts m) × (result < wide_limit) }
+    {
+        number(&self.parts, m * Sheet::PART + TEXT_TO)
+    }
+
+    // Where its label begins.
+    pub fn label_from(&self, m: usize) -> usize
+        requires { m < masses_room }
+        ensures { (result ≡ label_from_field self.now.parts m) × (result < wide_limit) }
+    {
+        number(&self.parts, m * Sheet::PART + LABEL_FROM)
+    }
+
+    // The place behind its label.
+    pub fn label_to(&self, m: usize) -> usize
+        requires { m < masses_room }
+        ensures { (result ≡ label_to_field self.now.parts m) × (result < wide_limit) }
+    {
+        number(&self.parts, m * Sheet::PART + LABEL_TO)
+    }
+
+    // ---- writing
+
+    // The row of bracket k, once, with no count written and no places.
+    pub fn put_head(&mut self, k: usize, h: Head)
+        requires { (k < bracket_limit) × HeadFits h }
+        ensures { self.new ≡ record self.old { heads = sets self.old.heads (k * head_fields) (head_row h) } }
+    {
+        let at = k * Sheet::HEAD;
+        self.heads[at] = h.place as u16;
+        self.heads[at + KIND] = h.kind as u16;
+        self.heads[at + SORT] = h.sort as u16;
+        self.heads[at + COUNT] = ONCE;
+        self.heads[at + COUNTED] = UNWRITTEN;
+        self.heads[at + FIRST] = h.first as u16;
+        self.heads[at + LAST] = h.last as u16;
+        self.heads[at + PARTS] = h.parts as u16;
+        self.heads[at + LABELS] = h.labels as u16;
+        self.heads[at + BASE] = h.base as u16;
+        self.heads[at + SCORE] = h.score as u16;
+        self.heads[at + PLACES] = NOWHERE;
+        self.heads[at + MANY] = NOWHERE;
+    }
+
+    // The code of its kind alone.
+    pub fn put_kind(&mut self, k: usize, kind: usize)
+        requires { (k < bracket_limit) × (kind < wide_limit) }
+        ensures { self.new ≡ record self.old { heads = set self.old.heads (kind_at k) kind } }
+    {
+        self.heads[k * Sheet::HEAD + KIND] = kind as u16;
+    }
+
+    // A count that is written.
+    pub fn put_count(&mut self, k: usize, count: usize)
+        requires { (k < bracket_limit) × (count < wide_limit) }
+        ensures { self.new ≡ record self.old { heads = sets self.old.heads (count_at k) (count ∷ written_count ∷ []) } }
+    {
+        let at = k * Sheet::HEAD;
+        self.heads[at + COUNT] = count as u16;
+        self.heads[at + COUNTED] = WRITTEN;
+    }
+
+    // Where its places begin, and how many they are.
+    pub fn put_places(&mut self, k: usize, from: usize, many: usize)
+        requires { (k < bracket_limit) × (from < wide_limit) × (many < wide_limit) }
+        ensures { self.new ≡ record self.old { heads = sets self.old.heads (places_at k) (from ∷ many ∷ []) } }
+    {
+        let at = k * Sheet::HEAD;
+        self.heads[at + PLACES] = from as u16;
+        self.heads[at + MANY] = many as u16;
+    }
+
+    // The row of part m, which has no label: the codes of its value and key, the decimals of its mass, where its text begins and the place behind it.
+    pub fn put_part(&mut self, m: usize, value: u8, key: u8, decimals: u8, from: usize, to: usize)
+        requires { (m < masses_room) × (from < wide_limit) × (to < wide_limit) }
+        ensures { self.new ≡ record self.old { parts = sets self.old.parts (m * part_fields) (part_row value key decimals from to) } }
+    {
+        let at = m * Sheet::PART;
+        self.parts[at] = value as u16;
+        self.parts[at + KEY] = key as u16;
+        self.parts[at + DECIMALS] = decimals as u16;
+        self.parts[at + TEXT_FROM] = from as u16;
+        self.parts[at + TEXT_TO] = to as u16;
+        self.parts[at + LABEL_FROM] = NOWHERE;
+        self.parts[at + LABEL_TO] = NOWHERE;
+    }
+
+    // Where its label begins, and the place behind it.
+    pub fn put_label(&mut self, m: usize, from: usize, to: usize)
+        requires { (m < masses_room) × (from < wide_limit) × (to < wide_limit) }
+        ensures { self.new ≡ record self.old { parts = sets self.old.parts (label_at m) (from ∷ to ∷ []) } }
+    {
+        let at = m * Sheet::PART;
+        self.parts[at + LABEL_FROM] = from as u16;
+        self.parts[at + LABEL_TO] = to as u16;
+    }
 }
 
 // A bracket whose count is not read yet: where it begins, the codes of its kind and of its sort, the first and the last position it stands on, how many parts and
@@ -117,252 +375,4 @@ fn number(rows: &[u16], at: usize) -> usize
     ensures { (result ≡ get_or rows.now at 0) × (result < wide_limit) }
 {
     wide(rows[at])
-}
-
-// ---- bracket k
-
-// Where it begins.
-pub fn place_of(heads: &[u16], k: usize) -> usize
-    requires { (heads_room ≤ length heads.now) × (k < bracket_limit) }
-    ensures { (result ≡ place_field heads.now k) × (result < wide_limit) }
-{
-    number(heads, k * Sheet::HEAD)
-}
-
-// The code of its kind.
-pub fn kind_of(heads: &[u16], k: usize) -> usize
-    requires { (heads_room ≤ length heads.now) × (k < bracket_limit) }
-    ensures { (result ≡ kind_field heads.now k) × (result < wide_limit) }
-{
-    number(heads, k * Sheet::HEAD + KIND)
-}
-
-// What it is: 0 only INFO, 1 an unlabelled modification, 2 a labelled one, 3 a reference.
-pub fn sort_of(heads: &[u16], k: usize) -> usize
-    requires { (heads_room ≤ length heads.now) × (k < bracket_limit) }
-    ensures { (result ≡ sort_field heads.now k) × (result < wide_limit) }
-{
-    number(heads, k * Sheet::HEAD + SORT)
-}
-
-// Its count.
-pub fn count_of(heads: &[u16], k: usize) -> usize
-    requires { (heads_room ≤ length heads.now) × (k < bracket_limit) }
-    ensures { (result ≡ count_field heads.now k) × (result < wide_limit) }
-{
-    number(heads, k * Sheet::HEAD + COUNT)
-}
-
-// Whether its count is written.
-pub fn is_counted(heads: &[u16], k: usize) -> bool
-    requires { (heads_room ≤ length heads.now) × (k < bracket_limit) }
-    ensures { result ≡ eqb (counted_field heads.now k) written_count }
-{
-    heads[k * Sheet::HEAD + COUNTED] == WRITTEN
-}
-
-// The first position it stands on.
-pub fn first_of(heads: &[u16], k: usize) -> usize
-    requires { (heads_room ≤ length heads.now) × (k < bracket_limit) }
-    ensures { (result ≡ first_field heads.now k) × (result < wide_limit) }
-{
-    number(heads, k * Sheet::HEAD + FIRST)
-}
-
-// The last.
-pub fn last_of(heads: &[u16], k: usize) -> usize
-    requires { (heads_room ≤ length heads.now) × (k < bracket_limit) }
-    ensures { (result ≡ last_field heads.now k) × (result < wide_limit) }
-{
-    number(heads, k * Sheet::HEAD + LAST)
-}
-
-// How many parts it has.
-pub fn parts_of(heads: &[u16], k: usize) -> usize
-    requires { (heads_room ≤ length heads.now) × (k < bracket_limit) }
-    ensures { (result ≡ parts_field heads.now k) × (result < wide_limit) }
-{
-    number(heads, k * Sheet::HEAD + PARTS)
-}
-
-// How many labels they have.
-pub fn labels_of(heads: &[u16], k: usize) -> usize
-    requires { (heads_room ≤ length heads.now) × (k < bracket_limit) }
-    ensures { (result ≡ labels_field heads.now k) × (result < wide_limit) }
-{
-    number(heads, k * Sheet::HEAD + LABELS)
-}
-
-// The number of its first part.
-pub fn base_of(heads: &[u16], k: usize) -> usize
-    requires { (heads_room ≤ length heads.now) × (k < bracket_limit) }
-    ensures { (result ≡ base_field heads.now k) × (result < wide_limit) }
-{
-    number(heads, k * Sheet::HEAD + BASE)
-}
-
-// 0 for no score, else one more than its decimals.
-pub fn score_of(heads: &[u16], k: usize) -> usize
-    requires { (heads_room ≤ length heads.now) × (k < bracket_limit) }
-    ensures { (result ≡ score_field heads.now k) × (result < wide_limit) }
-{
-    number(heads, k * Sheet::HEAD + SCORE)
-}
-
-// Where its places begin in the line: 0 where it has none.
-pub fn places_of(heads: &[u16], k: usize) -> usize
-    requires { (heads_room ≤ length heads.now) × (k < bracket_limit) }
-    ensures { (result ≡ places_field heads.now k) × (result < wide_limit) }
-{
-    number(heads, k * Sheet::HEAD + PLACES)
-}
-
-// How many places it has.
-pub fn many_of(heads: &[u16], k: usize) -> usize
-    requires { (heads_room ≤ length heads.now) × (k < bracket_limit) }
-    ensures { (result ≡ many_field heads.now k) × (result < wide_limit) }
-{
-    number(heads, k * Sheet::HEAD + MANY)
-}
-
-// ---- part m
-
-// The code of its value.
-pub fn value_of(parts: &[u16], m: usize) -> usize
-    requires { (parts_room ≤ length parts.now) × (m < masses_room) }
-    ensures { (result ≡ value_field parts.now m) × (result < wide_limit) }
-{
-    number(parts, m * Sheet::PART)
-}
-
-// The code of its key.
-pub fn key_of(parts: &[u16], m: usize) -> usize
-    requires { (parts_room ≤ length parts.now) × (m < masses_room) }
-    ensures { (result ≡ key_field parts.now m) × (result < wide_limit) }
-{
-    number(parts, m * Sheet::PART + KEY)
-}
-
-// The decimals of its mass.
-pub fn decimals_of(parts: &[u16], m: usize) -> usize
-    requires { (parts_room ≤ length parts.now) × (m < masses_room) }
-    ensures { (result ≡ decimals_field parts.now m) × (result < wide_limit) }
-{
-    number(parts, m * Sheet::PART + DECIMALS)
-}
-
-// Where its text begins.
-pub fn text_from(parts: &[u16], m: usize) -> usize
-    requires { (parts_room ≤ length parts.now) × (m < masses_room) }
-    ensures { (result ≡ text_from_field parts.now m) × (result < wide_limit) }
-{
-    number(parts, m * Sheet::PART + TEXT_FROM)
-}
-
-// The place behind its text.
-pub fn text_to(parts: &[u16], m: usize) -> usize
-    requires { (parts_room ≤ length parts.now) × (m < masses_room) }
-    ensures { (result ≡ text_to_field parts.now m) × (result < wide_limit) }
-{
-    number(parts, m * Sheet::PART + TEXT_TO)
-}
-
-// Where its label begins.
-pub fn label_from(parts: &[u16], m: usize) -> usize
-    requires { (parts_room ≤ length parts.now) × (m < masses_room) }
-    ensures { (result ≡ label_from_field parts.now m) × (result < wide_limit) }
-{
-    number(parts, m * Sheet::PART + LABEL_FROM)
-}
-
-// The place behind its label.
-pub fn label_to(parts: &[u16], m: usize) -> usize
-    requires { (parts_room ≤ length parts.now) × (m < masses_room) }
-    ensures { (result ≡ label_to_field parts.now m) × (result < wide_limit) }
-{
-    number(parts, m * Sheet::PART + LABEL_TO)
-}
-
-// ---- writing
-
-// The row of bracket k, once, with no count written and no places.
-pub fn put_head(heads: &mut [u16], k: usize, h: Head)
-    requires { (heads_room ≤ length heads.old) × (k < bracket_limit) × HeadFits h }
-    ensures { heads.new ≡ sets heads.old (k * head_fields) (head_row h) }
-{
-    let at = k * Sheet::HEAD;
-    heads[at] = h.place as u16;
-    heads[at + KIND] = h.kind as u16;
-    heads[at + SORT] = h.sort as u16;
-    heads[at + COUNT] = ONCE;
-    heads[at + COUNTED] = UNWRITTEN;
-    heads[at + FIRST] = h.first as u16;
-    heads[at + LAST] = h.last as u16;
-    heads[at + PARTS] = h.parts as u16;
-    heads[at + LABELS] = h.labels as u16;
-    heads[at + BASE] = h.base as u16;
-    heads[at + SCORE] = h.score as u16;
-    heads[at + PLACES] = NOWHERE;
-    heads[at + MANY] = NOWHERE;
-}
-
-// The code of its kind alone.
-pub fn put_kind(heads: &mut [u16], k: usize, kind: usize)
-    requires { (heads_room ≤ length heads.old) × (k < bracket_limit) × (kind < wide_limit) }
-    ensures { heads.new ≡ set heads.old (kind_at k) kind }
-{
-    heads[k * Sheet::HEAD + KIND] = kind as u16;
-}
-
-// A count that is written.
-pub fn put_count(heads: &mut [u16], k: usize, count: usize)
-    requires { (heads_room ≤ length heads.old) × (k < bracket_limit) × (count < wide_limit) }
-    ensures { heads.new ≡ sets heads.old (count_at k) (count ∷ written_count ∷ []) }
-{
-    let at = k * Sheet::HEAD;
-    heads[at + COUNT] = count as u16;
-    heads[at + COUNTED] = WRITTEN;
-}
-
-// Where its places begin, and how many they are.
-pub fn put_places(heads: &mut [u16], k: usize, from: usize, many: usize)
-    requires { (heads_room ≤ length heads.old) × (k < bracket_limit) × (from < wide_limit) × (many < wide_limit) }
-    ensures { heads.new ≡ sets heads.old (places_at k) (from ∷ many ∷ []) }
-{
-    let at = k * Sheet::HEAD;
-    heads[at + PLACES] = from as u16;
-    heads[at + MANY] = many as u16;
-}
-
-// The row of part m, which has no label: the codes of its value and key, the decimals of its mass, where its text begins and the place behind it.
-pub fn put_part(
-    parts: &mut [u16],
-    m: usize,
-    value: u8,
-    key: u8,
-    decimals: u8,
-    from: usize,
-    to: usize,
-)
-    requires { (parts_room ≤ length parts.old) × (m < masses_room) × (from < wide_limit) × (to < wide_limit) }
-    ensures { parts.new ≡ sets parts.old (m * part_fields) (part_row value key decimals from to) }
-{
-    let at = m * Sheet::PART;
-    parts[at] = value as u16;
-    parts[at + KEY] = key as u16;
-    parts[at + DECIMALS] = decimals as u16;
-    parts[at + TEXT_FROM] = from as u16;
-    parts[at + TEXT_TO] = to as u16;
-    parts[at + LABEL_FROM] = NOWHERE;
-    parts[at + LABEL_TO] = NOWHERE;
-}
-
-// Where its label begins, and the place behind it.
-pub fn put_label(parts: &mut [u16], m: usize, from: usize, to: usize)
-    requires { (parts_room ≤ length parts.old) × (m < masses_room) × (from < wide_limit) × (to < wide_limit) }
-    ensures { parts.new ≡ sets parts.old (label_at m) (from ∷ to ∷ []) }
-{
-    let at = m * Sheet::PART;
-    parts[at + LABEL_FROM] = from as u16;
-    parts[at + LABEL_TO] = to as u16;
 }

@@ -88,30 +88,30 @@ fn number(numbers: &[i64], at: usize) -> i64
 const TEXT: usize = 2;
 
 // Whether row m is a text behind the key of compositions.
-pub fn is_composition(parts: &[u16], m: usize) -> bool
-    requires { (parts_room ≤ length parts.now) × (m < masses_room) }
-    ensures { result ≡ is_composed parts.now m }
+pub fn is_composition(sheet: &Sheet, m: usize) -> bool
+    requires { (parts_room ≤ length sheet.now.parts) × (m < masses_room) }
+    ensures { result ≡ is_composed sheet.now.parts m }
 {
-    (sheet::key_of(parts, m) == Cutting::KEY) & (sheet::value_of(parts, m) == TEXT)
+    (sheet.key_of(m) == Cutting::KEY) & (sheet.value_of(m) == TEXT)
 }
 
 // How long the short text of the composition in row m is, and what it weighs.
-pub fn composition(line: &[u8], parts: &[u16], m: usize) -> Cutting
-    requires { RowCut line.now parts.now m }
-    ensures { ShortIs line.now parts.now m result.size result.mass }
+pub fn composition(line: &[u8], sheet: &Sheet, m: usize) -> Cutting
+    requires { RowCut line.now sheet.now.parts m }
+    ensures { ShortIs line.now sheet.now.parts m result.size result.mass }
 {
-    glycans::cut(line, sheet::text_from(parts, m), sheet::text_to(parts, m))
+    glycans::cut(line, sheet.text_from(m), sheet.text_to(m))
 }
 
 // The short text, so that it ends before a place. Answers where it begins.
-pub fn put_composition(line: &[u8], parts: &[u16], m: usize, out: &mut [u8], at: usize) -> usize
-    requires { RowCut line.now parts.now m × Room out.old at (text_put line.now parts.now m) }
-    ensures { PutBefore out.old at (text_put line.now parts.now m) out.new result }
+pub fn put_composition(line: &[u8], sheet: &Sheet, m: usize, out: &mut [u8], at: usize) -> usize
+    requires { RowCut line.now sheet.now.parts m × Room out.old at (text_put line.now sheet.now.parts m) }
+    ensures { PutBefore out.old at (text_put line.now sheet.now.parts m) out.new result }
 {
     glycans::put_short(
         line,
-        sheet::text_from(parts, m),
-        sheet::text_to(parts, m),
+        sheet.text_from(m),
+        sheet.text_to(m),
         out,
         at,
     )
@@ -120,8 +120,7 @@ pub fn put_composition(line: &[u8], parts: &[u16], m: usize, out: &mut [u8], at:
 // Row m, as part j of bracket k, its text and its label behind t bytes of others. Answers how many bytes of texts there are then.
 fn store_part(
     line: &[u8],
-    parts: &[u16],
-    masses: &[i64],
+    sheet: &Sheet,
     m: usize,
     k: usize,
     j: usize,
@@ -129,20 +128,19 @@ fn store_part(
     bytes: &mut [u8],
     numbers: &mut [i64],
 ) -> usize
-    requires { RowFits line.now parts.now masses.now m k j t bytes.old numbers.old }
-    ensures { RowPut line.now parts.now masses.now m k j t bytes.old numbers.old result bytes.new numbers.new }
+    requires { RowFits line.now sheet.now.parts sheet.now.masses m k j t bytes.old numbers.old }
+    ensures { RowPut line.now sheet.now.parts sheet.now.masses m k j t bytes.old numbers.old result bytes.new numbers.new }
 {
-    if is_composition(parts, m) {
-        return store_composition(line, parts, masses, m, k, j, t, bytes, numbers);
+    if is_composition(sheet, m) {
+        return store_composition(line, sheet, m, k, j, t, bytes, numbers);
     }
-    store_noted(line, parts, masses, m, k, j, t, bytes, numbers)
+    store_noted(line, sheet, m, k, j, t, bytes, numbers)
 }
 
 // The same of a composition: its short text, and its mass.
 fn store_composition(
     line: &[u8],
-    parts: &[u16],
-    masses: &[i64],
+    sheet: &Sheet,
     m: usize,
     k: usize,
     j: usize,
@@ -150,15 +148,15 @@ fn store_composition(
     bytes: &mut [u8],
     numbers: &mut [i64],
 ) -> usize
-    requires { ComposedFits line.now parts.now masses.now m k j t bytes.old numbers.old }
-    ensures { RowPut line.now parts.now masses.now m k j t bytes.old numbers.old result bytes.new numbers.new }
+    requires { ComposedFits line.now sheet.now.parts sheet.now.masses m k j t bytes.old numbers.old }
+    ensures { RowPut line.now sheet.now.parts sheet.now.masses m k j t bytes.old numbers.old result bytes.new numbers.new }
 {
-    let label = sheet::label_from(parts, m);
-    let l = sheet::label_to(parts, m) - label;
-    let c = composition(line, parts, m);
+    let label = sheet.label_from(m);
+    let l = sheet.label_to(m) - label;
+    let c = composition(line, sheet, m);
     let n = c.size;
     let behind = Tables::TEXTS + t + n;
-    put_composition(line, parts, m, bytes, behind);
+    put_composition(line, sheet, m, bytes, behind);
     copy(line, label, l, bytes, behind);
     let offset = offset_of(n + l, t);
     areas::put_part(
@@ -179,8 +177,7 @@ fn store_composition(
 // The same of any other part: as it is noted.
 fn store_noted(
     line: &[u8],
-    parts: &[u16],
-    masses: &[i64],
+    sheet: &Sheet,
     m: usize,
     k: usize,
     j: usize,
@@ -188,18 +185,18 @@ fn store_noted(
     bytes: &mut [u8],
     numbers: &mut [i64],
 ) -> usize
-    requires { NotedFits line.now parts.now masses.now m k j t bytes.old numbers.old }
-    ensures { RowPut line.now parts.now masses.now m k j t bytes.old numbers.old result bytes.new numbers.new }
+    requires { NotedFits line.now sheet.now.parts sheet.now.masses m k j t bytes.old numbers.old }
+    ensures { RowPut line.now sheet.now.parts sheet.now.masses m k j t bytes.old numbers.old result bytes.new numbers.new }
 {
-    let text = sheet::text_from(parts, m);
-    let n = sheet::text_to(parts, m) - text;
-    let label = sheet::label_from(parts, m);
-    let l = sheet::label_to(parts, m) - label;
+    let text = sheet.text_from(m);
+    let n = sheet.text_to(m) - text;
+    let label = sheet.label_from(m);
+    let l = sheet.label_to(m) - label;
     copy(line, text, n, bytes, Tables::TEXTS + t);
     copy(line, label, l, bytes, Tables::TEXTS + t + n);
-    let value = sheet::value_of(parts, m) as u8;
-    let key = sheet::key_of(parts, m) as u8;
-    let decimals = sheet::decimals_of(parts, m) as u8;
+    let value = sheet.value_of(m) as u8;
+    let key = sheet.key_of(m) as u8;
+    let decimals = sheet.decimals_of(m) as u8;
     let offset = offset_of(n + l, t);
     areas::put_part(bytes, k, j, value, key, decimals, n as u8, l as u8, offset);
     areas::put_mass(numbers, k, j, number(masses, m));
@@ -209,8 +206,7 @@ fn store_noted(
 // The n rows from m on, as the parts of bracket k, behind t bytes of texts. Answers how many there are then.
 fn store_parts(
     line: &[u8],
-    parts: &[u16],
-    masses: &[i64],
+    sheet: &Sheet,
     m: usize,
     n: usize,
     k: usize,
@@ -218,13 +214,13 @@ fn store_parts(
     bytes: &mut [u8],
     numbers: &mut [i64],
 ) -> usize
-    requires { SomePartsFit line.now parts.now masses.now m n k t bytes.old numbers.old }
-    ensures { (ps : List (Part ℕ)) (a : Pieces) → PartsFit line.now parts.now masses.now m n k t ps a bytes.old numbers.old → PartsPut k t ps a result bytes.new numbers.new }
+    requires { SomePartsFit line.now sheet.now.parts sheet.now.masses m n k t bytes.old numbers.old }
+    ensures { (ps : List (Part ℕ)) (a : Pieces) → PartsFit line.now sheet.now.parts sheet.now.masses m n k t ps a bytes.old numbers.old → PartsPut k t ps a result bytes.new numbers.new }
 {
     let mut j: usize = 0;
     let mut u = t;
     while j < n {
-        u = store_part(line, parts, masses, m + j, k, j, u, bytes, numbers);
+        u = store_part(line, sheet, m + j, k, j, u, bytes, numbers);
         j += 1;
     }
     u
@@ -233,19 +229,19 @@ fn store_parts(
 // ---- a bracket
 
 // The head of bracket k.
-fn store_head(heads: &[u16], k: usize, bytes: &mut [u8])
-    requires { HeadGoesIn heads.now k bytes.old }
-    ensures { bytes.new ≡ sets bytes.old (row_at k) (head_from heads.now k) }
+fn store_head(sheet: &Sheet, k: usize, bytes: &mut [u8])
+    requires { HeadGoesIn sheet.now.heads k bytes.old }
+    ensures { bytes.new ≡ sets bytes.old (row_at k) (head_from sheet.now.heads k) }
 {
     areas::put_head(
         bytes,
         k,
-        sheet::kind_of(heads, k) as u8,
-        sheet::first_of(heads, k),
-        sheet::last_of(heads, k),
-        sheet::count_of(heads, k) as u8,
-        sheet::parts_of(heads, k) as u8,
-        sheet::score_of(heads, k) as u8,
+        sheet.kind_of(k) as u8,
+        sheet.first_of(k),
+        sheet.last_of(k),
+        sheet.count_of(k) as u8,
+        sheet.parts_of(k) as u8,
+        sheet.score_of(k) as u8,
     );
 }
 
@@ -268,24 +264,21 @@ fn store_places(line: &[u8], at: usize, n: usize, k: usize, bytes: &mut [u8])
 // Bracket k, its texts behind t bytes of others. Answers how many there are then.
 fn store_bracket(
     line: &[u8],
-    heads: &[u16],
-    parts: &[u16],
-    masses: &[i64],
-    scores: &[i64],
+    sheet: &Sheet,
     k: usize,
     t: usize,
     bytes: &mut [u8],
     numbers: &mut [i64],
 ) -> usize
-    requires { SomeBracketFits line.now heads.now parts.now masses.now scores.now k t bytes.old numbers.old }
-    ensures { (b : Bracket ℕ) (a : Pieces) → BracketGoesIn line.now heads.now parts.now masses.now scores.now k t b a bytes.old numbers.old → BracketPut k t b a result bytes.new numbers.new }
+    requires { SomeBracketFits line.now sheet.now.heads sheet.now.parts sheet.now.masses sheet.now.scores k t bytes.old numbers.old }
+    ensures { (b : Bracket ℕ) (a : Pieces) → BracketGoesIn line.now sheet.now.heads sheet.now.parts sheet.now.masses sheet.now.scores k t b a bytes.old numbers.old → BracketPut k t b a result bytes.new numbers.new }
 {
     store_head(heads, k, bytes);
-    let m = sheet::base_of(heads, k);
-    let n = sheet::parts_of(heads, k);
-    let u = store_parts(line, parts, masses, m, n, k, t, bytes, numbers);
-    let at = sheet::places_of(heads, k);
-    let many = sheet::many_of(heads, k);
+    let m = sheet.base_of(k);
+    let n = sheet.parts_of(k);
+    let u = store_parts(line, sheet, m, n, k, t, bytes, numbers);
+    let at = sheet.places_of(k);
+    let many = sheet.many_of(k);
     store_places(line, at, many, k, bytes);
     areas::put_score(numbers, k, number(scores, k));
     u
@@ -294,21 +287,18 @@ fn store_bracket(
 // The first n brackets, one behind another.
 fn store_brackets(
     line: &[u8],
-    heads: &[u16],
-    parts: &[u16],
-    masses: &[i64],
-    scores: &[i64],
+    sheet: &Sheet,
     n: usize,
     bytes: &mut [u8],
     numbers: &mut [i64],
 )
-    requires { SomeBracketsFit line.now heads.now parts.now masses.now scores.now n bytes.old numbers.old }
-    ensures { (ks : List (Bracket ℕ)) (a : Pieces) → BracketsFit line.now heads.now parts.now masses.now scores.now n ks a bytes.old numbers.old → BracketsPut ks a bytes.new numbers.new }
+    requires { SomeBracketsFit line.now sheet.now.heads sheet.now.parts sheet.now.masses sheet.now.scores n bytes.old numbers.old }
+    ensures { (ks : List (Bracket ℕ)) (a : Pieces) → BracketsFit line.now sheet.now.heads sheet.now.parts sheet.now.masses sheet.now.scores n ks a bytes.old numbers.old → BracketsPut ks a bytes.new numbers.new }
 {
     let mut k: usize = 0;
     let mut t: usize = 0;
     while k < n {
-        t = store_bracket(line, heads, parts, masses, scores, k, t, bytes, numbers);
+        t = store_bracket(line, sheet, k, t, bytes, numbers);
         k += 1;
     }
 }
@@ -316,9 +306,9 @@ fn store_brackets(
 // ---- a line
 
 // The numbers of residues and brackets, the letters and the sections.
-fn store_front(letters: &[u8], sections: &[u8], residues: usize, brackets: usize, bytes: &mut [u8])
-    requires { FrontFits letters.now sections.now residues brackets bytes.old }
-    ensures { bytes.new ≡ front_put letters.now sections.now residues brackets bytes.old }
+fn store_front(sheet: &Sheet, residues: usize, brackets: usize, bytes: &mut [u8])
+    requires { FrontFits sheet.now.letters sheet.now.sections residues brackets bytes.old }
+    ensures { bytes.new ≡ front_put sheet.now.letters sheet.now.sections residues brackets bytes.old }
 {
     areas::put_counts(bytes, residues, brackets);
     copy(letters, 0, residues, bytes, Tables::LETTERS);
@@ -328,20 +318,15 @@ fn store_front(letters: &[u8], sections: &[u8], residues: usize, brackets: usize
 // The tables of an accepted line, from the sheet into areas whose room for them is zero.
 pub fn store(
     line: &[u8],
-    letters: &[u8],
-    sections: &[u8],
-    heads: &[u16],
-    parts: &[u16],
-    masses: &[i64],
-    scores: &[i64],
+    sheet: &Sheet,
     residues: usize,
     brackets: usize,
     bytes: &mut [u8],
     numbers: &mut [i64],
 )
-    requires { Fills line.now letters.now sections.now heads.now parts.now masses.now scores.now residues brackets bytes.old numbers.old }
+    requires { Fills line.now sheet.now residues brackets bytes.old numbers.old }
     ensures { (l : Line ℕ) → outcome line.now ≡ accepted l → FilledAll bytes.old numbers.old bytes.new numbers.new l }
 {
     store_front(letters, sections, residues, brackets, bytes);
-    store_brackets(line, heads, parts, masses, scores, brackets, bytes, numbers);
+    store_brackets(line, sheet, brackets, bytes, numbers);
 }

@@ -21,20 +21,10 @@ fn reads_to(line: &[u8], bytes: &[u8], numbers: &[i64]) -> bool
     requires { (bytes_size ≤ length bytes.now) × (numbers_size ≤ length numbers.now) }
     ensures { result ≡ reads_to (outcome line.now) (take bytes_size bytes.now) (take numbers_size numbers.now) }
 {
-    let mut letters = [0u8; Tables::RESIDUES];
-    let mut sections = [0u8; Tables::RESIDUES];
-    let mut heads = [0u16; Sheet::HEADS];
-    let mut parts = [0u16; Sheet::PARTS];
-    let mut masses = [0i64; Sheet::MASSES];
-    let mut scores = [0i64; Tables::BRACKETS];
+    let mut sheet = Sheet::new();
     let judged = verdict::judge(
         line,
-        &mut letters,
-        &mut sections,
-        &mut heads,
-        &mut parts,
-        &mut masses,
-        &mut scores,
+        &mut sheet,
     );
     match judged {
         Judged::Refused {
@@ -46,7 +36,7 @@ fn reads_to(line: &[u8], bytes: &[u8], numbers: &[i64]) -> bool
             brackets,
             floaters: _,
         } => held::holds(
-            line, &letters, &sections, &heads, &parts, &masses, &scores, residues, brackets, bytes,
+            line, &sheet, residues, brackets, bytes,
             numbers,
         ),
     }

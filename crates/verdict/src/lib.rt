@@ -6,7 +6,6 @@ ghost use Rattle.scope.specs.Bytes.{is_printable};
 ghost use Rattle.scope.specs.Line.{Line};
 ghost use Rattle.scope.specs.Reading.{holds, reading};
 ghost use Rattle.classes.specs.Runs.{span};
-ghost use Rattle.sheet.specs.Rows.{Roomy};
 ghost use Rattle.verdict.specs.Due.{WalkedLine, FirstOf, by_code, unread};
 ghost use Rattle.verdict.specs.Says.{VerdictSays, JudgedSays};
 
@@ -60,8 +59,8 @@ fn not_read(line: &[u8], place: usize) -> Judged
 }
 
 // The first refusal due of 5 to 12, 19 and 21, where `least` is the first of 5 to 9 and 19, and how many copies float where none is due: the rules are asked where none of 5 to 9 is.
-fn first_due(line: &[u8], heads: &[u16], parts: &[u16], brackets: usize, least: usize) -> Found
-    requires { WalkedLine line.now heads.now parts.now brackets least }
+fn first_due(line: &[u8], sheet: &Sheet, brackets: usize, least: usize) -> Found
+    requires { WalkedLine line.now sheet.now.heads sheet.now.parts brackets least }
     ensures { (l : Line ℕ) → reading line.now ≡ holds l → FirstOf l result.first result.floaters }
 {
     if least < dues::RULED {
@@ -70,7 +69,7 @@ fn first_due(line: &[u8], heads: &[u16], parts: &[u16], brackets: usize, least: 
             floaters: 0,
         };
     }
-    rules::rules_due(line, heads, parts, brackets, least)
+    rules::rules_due(line, sheet, brackets, least)
 }
 
 // What the first refusal due says of a line with so many residues, brackets and floaters.
@@ -93,15 +92,9 @@ fn by_code(c: usize, residues: usize, brackets: usize, floaters: usize) -> Judge
 // The refusal of a line; or that it is accepted, and what it holds in the tables. These have room for what is noted of any line, and may hold anything before.
 pub fn judge(
     line: &[u8],
-    letters: &mut [u8],
-    sections: &mut [u8],
-    heads: &mut [u16],
-    parts: &mut [u16],
-    masses: &mut [i64],
-    scores: &mut [i64],
+    sheet: &mut Sheet,
 ) -> Judged
-    requires { Roomy letters.old sections.old heads.old parts.old masses.old scores.old }
-    ensures { JudgedSays line.now result letters.new sections.new heads.new parts.new masses.new scores.new }
+    ensures { JudgedSays line.now result sheet.new }
 {
     let n = line.len();
     if n == 0 {
@@ -116,7 +109,7 @@ pub fn judge(
             place: Tables::LINE,
         };
     }
-    let walked = walk::walk(line, letters, sections, heads, parts, masses, scores);
+    let walked = walk::walk(line, sheet);
     match walked {
         Walked::Stuck(place) => not_read(line, place),
         Walked::Holds {
@@ -124,7 +117,7 @@ pub fn judge(
             brackets,
             least,
         } => {
-            let found = first_due(line, heads, parts, brackets, least);
+            let found = first_due(line, sheet, brackets, least);
             by_code(found.first, residues, brackets, found.floaters)
         }
     }
@@ -134,20 +127,10 @@ pub fn judge(
 pub fn verdict_on(line: &[u8]) -> Read
     ensures { VerdictSays line.now result }
 {
-    let mut letters = [0u8; Tables::RESIDUES];
-    let mut sections = [0u8; Tables::RESIDUES];
-    let mut heads = [0u16; Sheet::HEADS];
-    let mut parts = [0u16; Sheet::PARTS];
-    let mut masses = [0i64; Sheet::MASSES];
-    let mut scores = [0i64; Tables::BRACKETS];
+    let mut sheet = Sheet::new();
     let judged = judge(
         line,
-        &mut letters,
-        &mut sections,
-        &mut heads,
-        &mut parts,
-        &mut masses,
-        &mut scores,
+        &mut sheet,
     );
     match judged {
         Judged::Refused { number, place } => Read::Refused { number, place },

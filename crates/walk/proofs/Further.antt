@@ -19,10 +19,12 @@ use Rattle.reading_laws.proofs.Run.{rest, rest_start, rest_step, rest_end, rest_
 use Rattle.sheet.specs.Rows.{Noted}
 use Rattle.dues.specs.Ranks.{lowest}
 use Rattle.dues.specs.Lines.{met_codes}
+use Rattle.sheet.specs.declared.Sheet.{Sheet}
+use Rattle.sheet.specs.Kept.{Sized}
 use Rattle.walk.specs.declared.Stage.{Stage}
 use Rattle.walk.specs.declared.Step.{Step}
 use Rattle.walk.specs.declared.Step.TheVariants.{Stuck, More}
-use Rattle.walk.specs.Stages.{held_brackets, TablesLent, with_heads, HasRoom, nothing_due, BracketsAre, Upto, Does, Low, first_stage}
+use Rattle.walk.specs.Stages.{held_brackets, with_heads, nothing_due, BracketsAre, Upto, Does, Low, first_stage}
 use Rattle.walk.specs.Steps.{gone_to, settled_in, Settled, Stepped}
 use Rattle.walk.specs.Walked.{LineSays}
 use Rattle.walk.proofs.Modes.{ActFits, act_fits_lem, ends_settled}
@@ -30,7 +32,7 @@ use Rattle.walk.proofs.Declares.{none_declares, over_declares, declares_go, none
 use Rattle.walk.proofs.Dues.{met_none, met_settled}
 use Rattle.walk.proofs.Notes.{none_noted, noted_settled, noted_low}
 
-module _ {line : List ℕ} {s : Stage} {a : Act} {t : TablesLent} (d : Does line s a t) where
+module _ {line : List ℕ} {s : Stage} {a : Act} {t : Sheet} (d : Does line s a t) where
   pub next_state : reading line ≡ rest line (s.at + 1) (perform s.at (get_or line s.at 0) d.upto.held a)
   unfolding step
   next_state =
@@ -56,7 +58,7 @@ module _ {line : List ℕ} {s : Stage} {a : Act} {t : TablesLent} (d : Does line
         room = λ h. omega (arith, n, b.many, h);
       }
 
-pub stopped : {line : List ℕ} {s : Stage} {t : TablesLent} → Does line s Stop t → reading line ≡ stuck s.at
+pub stopped : {line : List ℕ} {s : Stage} {t : Sheet} → Does line s Stop t → reading line ≡ stuck s.at
 unfolding perform
 stopped {line} {s} d = next_state d ∙ rest_dead line (s.at + 1) s.at
 
@@ -70,7 +72,7 @@ brackets_as {line} {n} {run} {m} {bs} {ws} {heads} {parts} {masses} {scores} a b
 }
 
 -- another table of heads, as long
-pub room_heads : {t : TablesLent} {heads : List ℕ} → HasRoom t → length heads ≡ length t.heads → HasRoom (with_heads t heads)
+pub room_heads : {t : Sheet} {heads : List ℕ} → Sized t → length heads ≡ length t.heads → Sized (with_heads t heads)
 room_heads r e = record {
   letters_room = r.letters_room;
   sections_room = r.sections_room;
@@ -80,7 +82,7 @@ room_heads r e = record {
   scores_room = r.scores_room;
 }
 
-module _ {line : List ℕ} {s : Stage} {t : TablesLent} where
+module _ {line : List ℕ} {s : Stage} {t : Sheet} where
   pub gone_on : {mode : Mode} {r : Stage} → r ≡ gone_to s mode → Does line s (Go mode) t → Upto line r t × (s.at < r.at)
   unfolding perform
   gone_on {mode} {r} e d =
@@ -126,10 +128,10 @@ module _ {line : List ℕ} {s : Stage} {t : TablesLent} where
       subst (λ x. Upto line x t × (s.at < x.at)) (sym e) (on, omega arith)
 
   -- `-`
-  pub term_end : {r : Stage} {heads : List ℕ} → r ≡ settled_in s Start → Settled s.run (min s.brackets bracket_limit) t.heads heads → Does line s TermEnds t
-      → Upto line r (with_heads t heads) × (s.at < r.at)
+  pub term_end : {r : Stage} {t' : Sheet} → r ≡ settled_in s Start → Settled s.run (min s.brackets bracket_limit) t t' → Does line s TermEnds t
+      → Upto line r t' × (s.at < r.at)
   unfolding perform
-  term_end {r} {heads} e g d =
+  term_end {r} {t'} e g d =
       let u = d.upto in
       let h = u.held in
       let a = u.brackets_are in
@@ -137,14 +139,14 @@ module _ {line : List ℕ} {s : Stage} {t : TablesLent} where
       let ws = map as_nTerm h.run in
       let long : length (bs ++ h.run) ≡ length (bs ++ ws) =
       length-append bs h.run ∙ ap (λ n. length bs + n) (sym (length-map h.run as_nTerm)) ∙ sym (length-append bs ws) in
-      let settled : BracketsAre line s.brackets s.run s.parts bs ws heads t.parts t.masses t.scores =
+      let settled : BracketsAre line s.brackets s.run s.parts bs ws t'.heads t.parts t.masses t.scores =
       record {
         many = a.many ∙ long;
         before = a.before;
         noted = noted_settled bs h.run s.run s.brackets a.before a.many g a.noted;
       } in
       let same : bs ++ ws ≡ (bs ++ ws) ++ [] = sym (append-nil (bs ++ ws)) in
-      let on : Upto line (settled_in s Start) (with_heads t heads) =
+      let on : Upto line (settled_in s Start) (with_heads t t'.heads) =
       record {
         held = settled_run as_nTerm h;
         is = next_state d;
@@ -158,10 +160,10 @@ module _ {line : List ℕ} {s : Stage} {t : TablesLent} where
         few_brackets_lem = omega (arith, u.few_brackets_lem);
         roomy = room_heads u.roomy g.kept;
       } in
-      subst (λ x. Upto line x (with_heads t heads) × (s.at < x.at)) (sym e) (on, omega arith)
+      subst (λ x. Upto line x t' × (s.at < x.at)) (sym e) (subst (Upto line (settled_in s Start)) (sym g.others) on, omega arith)
 
 -- ---- before the first byte
-pub nothing_read : (line : List ℕ) (t : TablesLent) → HasRoom t → Upto line first_stage t
+pub nothing_read : (line : List ℕ) (t : Sheet) → Sized t → Upto line first_stage t
 nothing_read line t r = record {
   held = nothing;
   is = rest_start line;
@@ -176,8 +178,11 @@ nothing_read line t r = record {
   roomy = r;
 }
 
+pub walk_starts : (line : List ℕ) (s : Stage) (t : Sheet) → s ≡ first_stage → Sized t → Upto line s t
+walk_starts line s t e r = subst (λ x. Upto line x t) (sym e) (nothing_read line t r)
+
 -- ---- behind the last
-module _ {line : List ℕ} {s : Stage} {t : TablesLent} (u : Upto line s t) (past : length line ≤ s.at) where
+module _ {line : List ℕ} {s : Stage} {t : Sheet} (u : Upto line s t) (past : length line ≤ s.at) where
   ended_here : reading line ≡ cond (may_end s.mode) (holds (line_of u.held)) (stuck (length line))
   ended_here = u.is ∙ rest_end line s.at (outside s.mode u.held) past
 
@@ -201,44 +206,11 @@ module _ {line : List ℕ} {s : Stage} {t : TablesLent} (u : Upto line s t) (pas
   line_stuck e = ended_here ∙ ap (λ b. cond b (holds (line_of u.held)) (stuck (length line))) e
 
 -- ---- what the byte at hand does, and what a step says, by their answers
-pub does_this : {line : List ℕ} {s : Stage} {t : TablesLent} → (length line ≤ line_limit) × (s.at < length line) × Upto line s t → {r a : Act} → r ≡ act s.mode (get_or line s.at 0) → r ≡ a → Does line s a t
+pub does_this : {line : List ℕ} {s : Stage} {t : Sheet} → (length line ≤ line_limit) × (s.at < length line) × Upto line s t → {r a : Act} → r ≡ act s.mode (get_or line s.at 0) → r ≡ a → Does line s a t
 does_this p e g = record { upto = p.2; here = p.1; short = p.0; does = sym e ∙ g }
 
-pub step_stuck : (line : List ℕ) (s : Stage) (t : TablesLent) {r : Step} {p : ℕ} → Stepped line s r t → r ≡ Stuck p → reading line ≡ stuck p
+pub step_stuck : (line : List ℕ) (s : Stage) (t : Sheet) {r : Step} {p : ℕ} → Stepped line s r t → r ≡ Stuck p → reading line ≡ stuck p
 step_stuck line s t f e = subst (λ x. Stepped line s x t) e f
 
-pub step_more : (line : List ℕ) (s : Stage) (t : TablesLent) {r : Step} {n : Stage} → Stepped line s r t → r ≡ More n → Upto line n t × (s.at < n.at)
+pub step_more : (line : List ℕ) (s : Stage) (t : Sheet) {r : Step} {n : Stage} → Stepped line s r t → r ≡ More n → Upto line n t × (s.at < n.at)
 step_more line s t f e = subst (λ x. Stepped line s x t) e f
-
--- ---- the whole line, stage by stage
--- the tables are as long as they were
-pub record AsLong (old t : TablesLent) : Type 0 where
-  pub letters : length t.letters ≡ length old.letters
-  pub sections : length t.sections ≡ length old.sections
-  pub heads : length t.heads ≡ length old.heads
-  pub parts : length t.parts ≡ length old.parts
-  pub masses : length t.masses ≡ length old.masses
-  pub scores : length t.scores ≡ length old.scores
-
-pub record Walking (line : List ℕ) (old : TablesLent) (s : Stage) (t : TablesLent) : Type 0 where
-  pub upto : Upto line s t
-  pub kept : AsLong old t
-
-pub walking_start : (line : List ℕ) (s : Stage) (t : TablesLent) → s ≡ first_stage → HasRoom t → Walking line t s t
-walking_start line s t e r = record {
-  upto = subst (λ x. Upto line x t) (sym e) (nothing_read line t r);
-  kept = record { letters = refl; sections = refl; heads = refl; parts = refl; masses = refl; scores = refl };
-}
-
-pub walking_next : {line : List ℕ} {old : TablesLent} {s n : Stage} {t t' : TablesLent} → Walking line old s t → Upto line n t' → AsLong t t' → Walking line old n t'
-walking_next w u k = record {
-  upto = u;
-  kept = record {
-    letters = k.letters ∙ w.kept.letters;
-    sections = k.sections ∙ w.kept.sections;
-    heads = k.heads ∙ w.kept.heads;
-    parts = k.parts ∙ w.kept.parts;
-    masses = k.masses ∙ w.kept.masses;
-    scores = k.scores ∙ w.kept.scores;
-  };
-}

@@ -23,6 +23,7 @@ use Rattle.sheet.specs.Fields.{count_at, places_at, written_count}
 use Rattle.sheet.proofs.RowLaws.{head_behind, count_put_lem, places_put_lem}
 use Rattle.inside.specs.Says.{Opening, Grows}
 use Rattle.inside.proofs.Lists.{length_snoc, take_few, take_many}
+use Rattle.sheet.specs.declared.Sheet.{Sheet}
 use Rattle.walk.specs.Steps.{Settled, count_put, places_put}
 use Rattle.walk.proofs.Dues.{flat_settled, map_settled}
 
@@ -179,9 +180,9 @@ take_map f zero l = refl
 take_map f (suc n) [] = refl
 take_map f (suc n) (x ∷ l) = ap (λ t. f x ∷ t) (take_map f n l)
 
-pub noted_settled : {line : List ℕ} (bs rs : List (Bracket ℕ)) {m : ℕ} {heads heads' parts : List ℕ} {masses scores : List ℤ} (first n : ℕ) → first ≡ length bs → n ≡ length (bs ++ rs)
-    → Settled first (min n bracket_limit) heads heads' → Noted line (bs ++ rs) m heads parts masses scores → Noted line (bs ++ map as_nTerm rs) m heads' parts masses scores
-noted_settled {line} bs rs {m} {heads} {heads'} {parts} {masses} {scores} first n e f g w =
+pub noted_settled : {line : List ℕ} (bs rs : List (Bracket ℕ)) {m : ℕ} {t t' : Sheet} {parts : List ℕ} {masses scores : List ℤ} (first n : ℕ) → first ≡ length bs → n ≡ length (bs ++ rs)
+    → Settled first (min n bracket_limit) t t' → Noted line (bs ++ rs) m t.heads parts masses scores → Noted line (bs ++ map as_nTerm rs) m t'.heads parts masses scores
+noted_settled {line} bs rs {m} {t} {t'} {parts} {masses} {scores} first n e f g w =
     let end = min n bracket_limit in
     let b = take bracket_limit bs in
     let r = take (bracket_limit - length bs) rs in
@@ -197,7 +198,7 @@ noted_settled {line} bs rs {m} {heads} {heads'} {parts} {masses} {scores} first 
     let parts_same : parts_of (b ++ r) ≡ parts_of (b ++ map as_nTerm r) = sym (flat_settled few_parts (λ x. refl) b r) in
     noted_of (b ++ map as_nTerm r) (take_append bracket_limit bs (map as_nTerm rs) ∙ ap (λ t. b ++ t) (take_map as_nTerm (bracket_limit - length bs) rs))
     (record {
-      rows = ap (λ j. take (j * head_fields) heads') long' ∙ g.rows b r before upto (ap (λ j. take (j * head_fields) heads) (sym long) ∙ all.rows);
+      rows = ap (λ j. take (j * head_fields) t'.heads) long' ∙ g.rows b r before upto (ap (λ j. take (j * head_fields) t.heads) (sym long) ∙ all.rows);
       parts_are = subst (λ l. PartsNoted l m parts masses) parts_same all.parts_are;
       scores_are = ap (λ j. take j scores) (long' ∙ sym long) ∙ all.scores_are ∙ sym (map_settled points_of (λ x. refl) b r);
       stand = subst (AllStand line) parts_same all.stand;

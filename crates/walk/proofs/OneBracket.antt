@@ -7,7 +7,7 @@ use Prim.Native.Nat.{ℕ, ◌+◌, ◌-◌, ◌*◌, ◌<◌, min}
 use native.Mathlib.Omega.{arith}
 use lib.Dec.{leb}
 use lib.IntN.{ℤ}
-use lib.ListN.{length, drop, get_or, length-set}
+use lib.ListN.{length, drop, get_or, set, length-set}
 use lib.Seq.{sets, length-sets}
 use borrow.Author.Tests.{ltb-true}
 use Rattle.basics.specs.Choice.{branch, by_test}
@@ -29,12 +29,13 @@ use Rattle.dues.specs.Lines.{over_rank, parts_codes, met_codes}
 use Rattle.inside.specs.declared.Parts.{Parts}
 use Rattle.inside.specs.declared.BracketAt.{BracketAt}
 use Rattle.inside.specs.declared.BracketAt.TheVariants.{Stuck as stuck_at, Read}
-use Rattle.inside.specs.Says.{Opening, BracketFits, Closes, BracketSays}
+use Rattle.inside.specs.Says.{Opening, BracketFits, Grows, Closes, BracketSays}
 use Rattle.inside.proofs.Lists.{length_snoc}
+use Rattle.sheet.specs.declared.Sheet.{Sheet}
 use Rattle.walk.specs.declared.Stage.{Stage}
 use Rattle.walk.specs.declared.Step.{Step}
 use Rattle.walk.specs.declared.Step.TheVariants.{Stuck, More}
-use Rattle.walk.specs.Stages.{ModeFits, Declares, held_brackets, TablesLent, lent, nothing_due, ResiduesAre, BracketsAre, Upto, Does}
+use Rattle.walk.specs.Stages.{ModeFits, Declares, held_brackets, nothing_due, ResiduesAre, BracketsAre, Upto, Does}
 use Rattle.walk.specs.Steps.{noted?, run_behind, bracket_behind, opening_of, BracketAsks, BracketStuck, BracketRead, BracketStep, Stepped}
 use Rattle.walk.proofs.Modes.{SlotFits, labels_there}
 use Rattle.walk.proofs.Declares.{begins_declaring, declares_bracket, all_kept}
@@ -43,14 +44,12 @@ use Rattle.walk.proofs.Notes.{noted_more}
 use Rattle.walk.proofs.Further.{next_state, run_left, low, brackets_as}
 
 -- ---- what reading a bracket asks, and what it says, by its answer
-pub bracket_fits : {line : List ℕ} {s : Stage} {slot : Slot} {heads parts : List ℕ} {masses scores : List ℤ} → BracketAsks line s slot heads parts masses scores → (least : ℕ)
+pub bracket_fits : {line : List ℕ} {s : Stage} {slot : Slot} → BracketAsks line s slot → (least : ℕ) (parts : List ℕ) (masses : List ℤ)
     → BracketFits line (opening_of s slot least parts masses)
-bracket_fits {s = s} a least = record {
+bracket_fits {s = s} a least parts masses = record {
   short = a.short;
   within = omega (arith, a.here);
   with_labels = a.with_labels;
-  parts_room_is = a.parts_room_is;
-  masses_room_is = a.masses_room_is;
   base_low = a.low.parts;
   base_room = λ e. a.low.room (ltb-true s.brackets bracket_limit e);
 }
@@ -82,7 +81,7 @@ module _ (slot : Slot) (k : Bracket ℕ) (h : Held ℕ) (f : SlotFits slot h.run
       put_by (λ g. ModeFits (mode_after slot ps) g.run l) slot.kind k h (λ q. f.waits (ap is_unknown q) k ps l e)
       (λ q. subst (λ r. ModeFits (mode_after slot ps) r l) (sym (f.none_before q)) (f.settles q ps l))
 
-module _ {line : List ℕ} {s : Stage} {t : TablesLent} {slot : Slot} (d : Does line s (Begin slot) t) where
+module _ {line : List ℕ} {s : Stage} {t : Sheet} {slot : Slot} (d : Does line s (Begin slot) t) where
   abbrev u : Upto line s t
   u = d.upto
 
@@ -92,19 +91,8 @@ module _ {line : List ℕ} {s : Stage} {t : TablesLent} {slot : Slot} (d : Does 
   abbrev ks : List (Bracket ℕ)
   ks = held_brackets h
 
-  pub bracket_asks : BracketAsks line s slot t.heads t.parts t.masses t.scores
-  bracket_asks =
-      let r = u.roomy in
-      record {
-        low = low d;
-        here = d.here;
-        short = d.short;
-        with_labels = labels_there s.mode _ slot d.does;
-        heads_room_is = r.heads_room_is;
-        parts_room_is = r.parts_room_is;
-        masses_room_is = r.masses_room_is;
-        scores_room = r.scores_room;
-      }
+  pub bracket_asks : BracketAsks line s slot
+  bracket_asks = record { low = low d; here = d.here; short = d.short; with_labels = labels_there s.mode _ slot d.does }
 
   bracket_stuck : {p : ℕ} → BracketStuck line s slot p → reading line ≡ stuck p
   unfolding perform
@@ -113,7 +101,29 @@ module _ {line : List ℕ} {s : Stage} {t : TablesLent} {slot : Slot} (d : Does 
   slot_fits_lem : SlotFits slot h.run
   slot_fits_lem = run_left d h.run _ u.fits
 
-  module _ {r : Stage} {heads parts : List ℕ} {masses scores : List ℤ} (w : BracketRead line s slot r t.heads heads t.parts parts t.masses masses t.scores scores) where
+  module _ {r : Stage} {t' : Sheet} (w : BracketRead line s slot r t t') where
+    -- the sheet behind the bracket, table by table
+    heads_put : t'.heads ≡ cond (noted? s) (sets t.heads (s.brackets * head_fields) (head_row w.noted.head)) t.heads
+    heads_put = ap (λ x. x.heads) w.noted.put ∙ ap (λ l. cond (noted? s) (sets l (s.brackets * head_fields) (head_row w.noted.head)) l) w.others.heads
+
+    scores_put : t'.scores ≡ cond (noted? s) (set t.scores s.brackets w.found.points) t.scores
+    scores_put = ap (λ x. x.scores) w.noted.put ∙ ap (λ l. cond (noted? s) (set l s.brackets w.found.points) l) w.others.scores
+
+    parts_are : t'.parts ≡ w.mid.parts
+    parts_are = ap (λ x. x.parts) w.noted.put
+
+    masses_are : t'.masses ≡ w.mid.masses
+    masses_are = ap (λ x. x.masses) w.noted.put
+
+    letters_kept : t'.letters ≡ t.letters
+    letters_kept = ap (λ x. x.letters) w.noted.put ∙ w.others.letters
+
+    sections_kept : t'.sections ≡ t.sections
+    sections_kept = ap (λ x. x.sections) w.noted.put ∙ w.others.sections
+
+    grows_at : Grows (opening_of s slot w.least t.parts t.masses) w.closes.found t'.parts t'.masses
+    grows_at = rw (parts_are, masses_are) w.closes.grows
+
     abbrev ps : List (Part ℕ)
     ps = w.closes.found
 
@@ -127,22 +137,22 @@ module _ {line : List ℕ} {s : Stage} {t : TablesLent} {slot : Slot} (d : Does 
     g = put slot.kind k h
 
     -- the brackets with this one, as they are noted
-    with_bracket_lem : BracketsAre line (s.brackets + 1) (length ks) (cond (noted? s) (s.parts + min part_limit p.count) s.parts) ks (k ∷ []) heads parts masses scores
+    with_bracket_lem : BracketsAre line (s.brackets + 1) (length ks) (cond (noted? s) (s.parts + min part_limit p.count) s.parts) ks (k ∷ []) t'.heads t'.parts t'.masses t'.scores
     with_bracket_lem =
         let a = u.brackets_are in
         let c = w.closes in
         let o = opening_of s slot w.least t.parts t.masses in
         let put-noted =
-        noted_more a.noted k s.brackets a.many o refl refl refl refl parts masses c.grows (head_row w.noted.head)
+        noted_more a.noted k s.brackets a.many o refl refl refl refl t'.parts t'.masses grows_at (head_row w.noted.head)
         (w.noted.head_is.row line w.least h ps c.are u.residues_are.many u.residues_are.group_is) u.roomy.heads_room_is p.points c.are.points u.roomy.scores_room c.are.stand refl
         p.count c.are.count in
         record {
           many = ap (λ n. n + 1) a.many ∙ sym (length_snoc ks k);
           before = refl;
           noted =
-              subst (λ l. Noted line (ks ++ (k ∷ [])) (cond (noted? s) (s.parts + min part_limit p.count) s.parts) l parts masses scores) (sym w.noted.heads_put)
-              (subst (λ l. Noted line (ks ++ (k ∷ [])) (cond (noted? s) (s.parts + min part_limit p.count) s.parts) (cond (noted? s) (sets t.heads (s.brackets * head_fields) (head_row w.noted.head)) t.heads) parts masses l)
-              (sym w.noted.scores_put) put-noted);
+              subst (λ l. Noted line (ks ++ (k ∷ [])) (cond (noted? s) (s.parts + min part_limit p.count) s.parts) l t'.parts t'.masses t'.scores) (sym heads_put)
+              (subst (λ l. Noted line (ks ++ (k ∷ [])) (cond (noted? s) (s.parts + min part_limit p.count) s.parts) (cond (noted? s) (sets t.heads (s.brackets * head_fields) (head_row w.noted.head)) t.heads) t'.parts t'.masses l)
+              (sym scores_put) put-noted);
         }
 
     -- where a declaration begins, all brackets are of declarations
@@ -165,13 +175,16 @@ module _ {line : List ℕ} {s : Stage} {t : TablesLent} {slot : Slot} (d : Does 
         ∙ ap (λ t. lowest (lowest (lowest nothing_due (met_codes h.residues ks)) (map (code over_rank) (due_at (leb bracket_limit (length ks)) s.at))) (map (code over_rank) (due_at t (s.at - 1)))) all_declared)
         ∙ sym (met_bracket nothing_due h.residues ks k refl refl)
 
-    heads_long : length heads ≡ length t.heads
-    heads_long = ap length w.noted.heads_put ∙ branch (λ l. length l ≡ length t.heads) (noted? s) (length-sets t.heads (s.brackets * head_fields) (head_row w.noted.head)) refl
+    residues_kept : ResiduesAre s.residues s.group h.residues h.first t'.letters t'.sections
+    residues_kept = rw (letters_kept, sections_kept) u.residues_are
 
-    scores_long : length scores ≡ length t.scores
-    scores_long = ap length w.noted.scores_put ∙ branch (λ l. length l ≡ length t.scores) (noted? s) (length-set t.scores s.brackets p.points) refl
+    heads_long : length t'.heads ≡ length t.heads
+    heads_long = ap length heads_put ∙ branch (λ l. length l ≡ length t.heads) (noted? s) (length-sets t.heads (s.brackets * head_fields) (head_row w.noted.head)) refl
 
-    bracket_upto : Upto line (bracket_behind s slot w.next p) (lent t.letters t.sections heads parts masses scores)
+    scores_long : length t'.scores ≡ length t.scores
+    scores_long = ap length scores_put ∙ branch (λ l. length l ≡ length t.scores) (noted? s) (length-set t.scores s.brackets p.points) refl
+
+    bracket_upto : Upto line (bracket_behind s slot w.next p) t'
     unfolding perform
     bracket_upto =
         let c = w.closes in
@@ -188,7 +201,7 @@ module _ {line : List ℕ} {s : Stage} {t : TablesLent} {slot : Slot} (d : Does 
           declares =
               subst (λ m. Declares m g.brackets g.run) (sym moves) (declares_bracket s.mode (get_or line s.at 0) slot d.does h u.declares k refl refl ps);
           residues_are =
-              put_by (λ q. ResiduesAre s.residues s.group q.residues q.first t.letters t.sections) slot.kind k h (λ e. u.residues_are) (λ e. u.residues_are);
+              put_by (λ q. ResiduesAre s.residues s.group q.residues q.first t'.letters t'.sections) slot.kind k h (λ e. residues_kept) (λ e. residues_kept);
           brackets_are = brackets_as with_bracket_lem g.brackets g.run same (run_behind slot.kind s.run s.brackets) (put_run slot k h slot_fits_lem s.run s.brackets u.brackets_are.before u.brackets_are.many);
           least_is =
               bracket_codes_lem ∙ ap (λ l. lowest nothing_due (met_codes h.residues l)) same
@@ -196,21 +209,20 @@ module _ {line : List ℕ} {s : Stage} {t : TablesLent} {slot : Slot} (d : Does 
           few_residues = omega (arith, u.few_residues, c.past);
           few_brackets_lem = omega (arith, u.few_brackets_lem, c.past);
           roomy = record {
-            letters_room = x.letters_room;
-            sections_room = x.sections_room;
+            letters_room = omega (arith, x.letters_room, ap length letters_kept);
+            sections_room = omega (arith, x.sections_room, ap length sections_kept);
             heads_room_is = omega (arith, x.heads_room_is, heads_long);
-            parts_room_is = omega (arith, x.parts_room_is, c.grows.parts_long);
-            masses_room_is = omega (arith, x.masses_room_is, c.grows.masses_long);
+            parts_room_is = omega (arith, x.parts_room_is, grows_at.parts_long);
+            masses_room_is = omega (arith, x.masses_room_is, grows_at.masses_long);
             scores_room = omega (arith, x.scores_room, scores_long);
           };
         }
 
-    bracket_more : Upto line r (lent t.letters t.sections heads parts masses scores) × (s.at < r.at)
+    bracket_more : Upto line r t' × (s.at < r.at)
     bracket_more =
         let past : s.at < w.next = omega (arith, w.closes.past) in
-        subst (λ y. Upto line y (lent t.letters t.sections heads parts masses scores) × (s.at < y.at)) (sym w.noted.stage) (bracket_upto, past)
+        subst (λ y. Upto line y t' × (s.at < y.at)) (sym w.noted.stage) (bracket_upto, past)
 
-  pub bracket_step : (r : Step) (heads parts : List ℕ) (masses scores : List ℤ) → BracketStep line s slot r t.heads heads t.parts parts t.masses masses t.scores scores
-      → Stepped line s r (lent t.letters t.sections heads parts masses scores)
-  bracket_step (Stuck p) heads parts masses scores w = bracket_stuck w
-  bracket_step (More r) heads parts masses scores w = bracket_more w
+  pub bracket_step : (r : Step) (t' : Sheet) → BracketStep line s slot r t t' → Stepped line s r t'
+  bracket_step (Stuck p) t' w = bracket_stuck w
+  bracket_step (More r) t' w = bracket_more w

@@ -23,8 +23,9 @@ use Rattle.sheet.specs.Fields.{count_at, written_count}
 use Rattle.dues.specs.Ranks.{code, lowest}
 use Rattle.dues.specs.Lines.{wide_rank, met_codes}
 use Rattle.inside.proofs.Lists.{length_snoc}
+use Rattle.sheet.specs.declared.Sheet.{Sheet}
 use Rattle.walk.specs.declared.Stage.{Stage}
-use Rattle.walk.specs.Stages.{LastFresh, ModeFits, held_brackets, TablesLent, with_heads, nothing_due, BracketsAre, Upto, Does}
+use Rattle.walk.specs.Stages.{LastFresh, ModeFits, held_brackets, with_heads, nothing_due, BracketsAre, Upto, Does}
 use Rattle.walk.specs.Steps.{count_put, wrong_count, counted_to, CountNoted}
 use Rattle.walk.proofs.Counts.{with_count, count_read, count_stops, count_within, count_past}
 use Rattle.walk.proofs.Declares.{declares_count}
@@ -35,7 +36,7 @@ use Rattle.walk.proofs.Further.{run_left, brackets_as, room_heads}
 put_long : (n value : ℕ) (heads : List ℕ) → length (count_put n value heads) ≡ length heads
 put_long n value heads = branch (λ l. length l ≡ length heads) (leb n bracket_limit) (length-sets heads (count_at (n - 1)) (value ∷ written_count ∷ [])) refl
 
-module _ {line : List ℕ} {s : Stage} {t : TablesLent} (d : Does line s Digit t) where
+module _ {line : List ℕ} {s : Stage} {t : Sheet} (d : Does line s Digit t) where
   abbrev u : Upto line s t
   u = d.upto
 
@@ -103,8 +104,8 @@ module _ {line : List ℕ} {s : Stage} {t : TablesLent} (d : Does line s Digit t
           roomy = room_heads u.roomy (put_long s.brackets value t.heads);
         }
 
-  pub count_more : {r : Stage} {heads : List ℕ} → CountNoted line s r t.heads heads → Upto line r (with_heads t heads) × (s.at < r.at)
-  count_more {r} {heads} w =
+  pub count_more : {r : Stage} {t' : Sheet} → CountNoted line s r t t' → Upto line r t' × (s.at < r.at)
+  count_more {r} {t'} w =
       let past : s.at < w.next = omega (arith, w.is.ends, count_past line s.at d.here digit_here) in
-      subst (λ y. Upto line y (with_heads t heads) × (s.at < y.at)) (sym w.stage)
-      (subst (λ l. Upto line (counted_to s w.next w.value) (with_heads t l)) (sym w.put) (count_upto w.value w.next w.is), past)
+      subst (λ y. Upto line y t' × (s.at < y.at)) (sym w.stage)
+      (subst (Upto line (counted_to s w.next w.value)) (sym w.put) (count_upto w.value w.next w.is), past)

@@ -23,10 +23,11 @@ use Rattle.sheet.specs.Fields.{places_at}
 use Rattle.dues.specs.Ranks.{code, lowest}
 use Rattle.dues.specs.Lines.{over_rank, met_codes}
 use Rattle.inside.proofs.Lists.{length_snoc}
+use Rattle.sheet.specs.declared.Sheet.{Sheet}
 use Rattle.walk.specs.declared.Stage.{Stage}
 use Rattle.walk.specs.declared.Step.{Step}
 use Rattle.walk.specs.declared.Step.TheVariants.{Stuck, More}
-use Rattle.walk.specs.Stages.{LastBare, Declares, held_brackets, TablesLent, with_heads, nothing_due, BracketsAre, Upto, Does}
+use Rattle.walk.specs.Stages.{LastBare, Declares, held_brackets, with_heads, nothing_due, BracketsAre, Upto, Does}
 use Rattle.walk.specs.Steps.{places_put, listed_to, PlacesRead, PlacesStep, Stepped}
 use Rattle.walk.proofs.Declares.{places_last, declares_places}
 use Rattle.walk.proofs.Dues.{met_places}
@@ -50,7 +51,7 @@ list_begins line at next (p ∷ ps) s h = sym (ap (λ q. q.at) s.1)
 put_long : (n from many : ℕ) (heads : List ℕ) → length (places_put n from many heads) ≡ length heads
 put_long n from many heads = branch (λ l. length l ≡ length heads) (leb n bracket_limit) (length-sets heads (places_at (n - 1)) (from ∷ many ∷ [])) refl
 
-module _ {line : List ℕ} {s : Stage} {t : TablesLent} (d : Does line s Places t) where
+module _ {line : List ℕ} {s : Stage} {t : Sheet} (d : Does line s Places t) where
   abbrev u : Upto line s t
   u = d.upto
 
@@ -83,7 +84,7 @@ module _ {line : List ℕ} {s : Stage} {t : TablesLent} (d : Does line s Places 
   unfolding perform
   places_stuck f = next_state d ∙ f h
 
-  module _ {r : Stage} {heads : List ℕ} (w : PlacesRead line s r t.heads heads) where
+  module _ {r : Stage} {t' : Sheet} (w : PlacesRead line s r t t') where
     abbrev ps : List (Place ℕ)
     ps = w.reads.sites
 
@@ -135,12 +136,11 @@ module _ {line : List ℕ} {s : Stage} {t : TablesLent} (d : Does line s Places 
       roomy = room_heads u.roomy (put_long s.brackets (s.at + 1) w.many t.heads);
     }
 
-    places_more : Upto line r (with_heads t heads) × (s.at < r.at)
+    places_more : Upto line r t' × (s.at < r.at)
     places_more =
         let past : s.at < w.next = omega (arith, w.reads.past) in
-        subst (λ y. Upto line y (with_heads t heads) × (s.at < y.at)) (sym w.stage)
-        (subst (λ l. Upto line (listed_to s w.next w.least) (with_heads t l)) (sym w.put) places_upto, past)
+        subst (λ y. Upto line y t' × (s.at < y.at)) (sym w.stage) (subst (Upto line (listed_to s w.next w.least)) (sym w.put) places_upto, past)
 
-  pub places_step : (r : Step) (heads : List ℕ) → PlacesStep line s r t.heads heads → Stepped line s r (with_heads t heads)
-  places_step (Stuck p) heads w = places_stuck w
-  places_step (More r) heads w = places_more w
+  pub places_step : (r : Step) (t' : Sheet) → PlacesStep line s r t t' → Stepped line s r t'
+  places_step (Stuck p) t' w = places_stuck w
+  places_step (More r) t' w = places_more w

@@ -24,8 +24,9 @@ use Rattle.sheet.specs.Rows.{Lettered}
 use Rattle.sheet.proofs.RowLaws.{put_behind}
 use Rattle.dues.specs.Ranks.{code, lowest}
 use Rattle.dues.specs.Lines.{over_rank, met_codes}
+use Rattle.sheet.specs.declared.Sheet.{Sheet}
 use Rattle.walk.specs.declared.Stage.{Stage}
-use Rattle.walk.specs.Stages.{held_brackets, TablesLent, with_letters, nothing_due, Upto, Does}
+use Rattle.walk.specs.Stages.{held_brackets, with_letters, nothing_due, Upto, Does}
 use Rattle.walk.specs.Steps.{group_of, run_at, sections_of, with_run, letters_put, sections_put, RunSays}
 use Rattle.walk.proofs.Letters.{held_with, run_of, run_length, run_sections, run_places, run_letters, run_within, run_read}
 use Rattle.walk.proofs.Dues.{met_residues, past_due}
@@ -67,7 +68,7 @@ group_low RangeNext n m g h l = omega arith
 group_low UnsureFirst n m g h l = omega arith
 group_low UnsureNext n m g h l = omega arith
 
-module _ {line : List ℕ} {s : Stage} {t : TablesLent} {section : Section} {mode : Mode} (d : Does line s (a_residue section mode) t) where
+module _ {line : List ℕ} {s : Stage} {t : Sheet} {section : Section} {mode : Mode} (d : Does line s (a_residue section mode) t) where
   abbrev u : Upto line s t
   u = d.upto
 
@@ -121,11 +122,7 @@ module _ {line : List ℕ} {s : Stage} {t : TablesLent} {section : Section} {mod
         };
       }
 
-  pub run_more : {r : Stage} {letters sections : List ℕ} → RunSays line s section mode r t.letters t.sections letters sections → Upto line r (with_letters t letters sections) × (s.at < r.at)
-  run_more {r} {letters} {sections} w =
+  pub run_more : {r : Stage} {t' : Sheet} → RunSays line s section mode r t t' → Upto line r t' × (s.at < r.at)
+  run_more {r} {t'} w =
       let past : s.at < s.at + m = omega arith in
-      subst (λ x. Upto line x (with_letters t letters sections) × (s.at < x.at)) (sym w.stage) (
-        subst (λ l. Upto line (with_run s section mode m) (with_letters t l sections)) (sym w.letters_put_is)
-            (subst (λ l. Upto line (with_run s section mode m) (with_letters t (letters_put line s.at m s.residues t.letters) l)) (sym w.sections_put_is) run_upto),
-        past,
-      )
+      subst (λ x. Upto line x t' × (s.at < x.at)) (sym w.stage) (subst (Upto line (with_run s section mode m)) (sym w.put) run_upto, past)

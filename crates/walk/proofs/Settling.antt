@@ -11,6 +11,8 @@ use Rattle.scope.specs.Reading.{as_nTerm}
 use Rattle.sheet.specs.Rows.{head_fields, heads_from}
 use Rattle.sheet.specs.Fields.{kind_at}
 use Rattle.sheet.proofs.RowLaws.{kind_put}
+use Rattle.sheet.specs.declared.Sheet.{Sheet}
+use Rattle.walk.specs.Stages.{with_heads}
 use Rattle.walk.specs.Steps.{Settled}
 
 -- the rows up to i are settled; those up to `end` are left
@@ -21,14 +23,16 @@ pub record Partly (bs rs : List (Bracket ℕ)) (i end : ℕ) (heads : List ℕ) 
   pub at : min i end ≡ length bs + length done
   pub rows : take (end * head_fields) heads ≡ heads_from 0 (bs ++ (map as_nTerm done ++ left))
 
-pub record SettlingHeads (first end i : ℕ) (old heads : List ℕ) : Type 0 where
-  pub partly : (bs rs : List (Bracket ℕ)) → min first end ≡ length bs → end ≡ length bs + length rs → take (end * head_fields) old ≡ heads_from 0 (bs ++ rs) → Partly bs rs i end heads
-  pub kept : length heads ≡ length old
+pub record SettlingHeads (first end i : ℕ) (old t : Sheet) : Type 0 where
+  pub partly : (bs rs : List (Bracket ℕ)) → min first end ≡ length bs → end ≡ length bs + length rs → take (end * head_fields) old.heads ≡ heads_from 0 (bs ++ rs) → Partly bs rs i end t.heads
+  pub kept : length t.heads ≡ length old.heads
+  pub others : t ≡ with_heads old t.heads
 
-pub settling_start : (first end : ℕ) (old : List ℕ) → SettlingHeads first end first old old
+pub settling_start : (first end : ℕ) (old : Sheet) → SettlingHeads first end first old old
 settling_start first end old = record {
   partly = λ bs rs e f g. record { done = []; left = rs; is = refl; at = let z : min first end ≡ length bs + 0 = omega arith in z; rows = g };
   kept = refl;
+  others = refl;
 }
 
 partly_next : (bs rs : List (Bracket ℕ)) (i end : ℕ) (heads : List ℕ) (done left : List (Bracket ℕ)) → rs ≡ done ++ left → min i end ≡ length bs + length done
@@ -57,24 +61,27 @@ partly_end bs rs i end heads done [] is at rows e h =
     rows ∙ ap (λ t. heads_from 0 (bs ++ t)) (append-nil (map as_nTerm done) ∙ ap (map as_nTerm) (sym (is ∙ append-nil done)))
 partly_end bs rs i end heads done (k ∷ left) is at rows e h = absurd (omega (arith, ap length is, length-append done (k ∷ left)))
 
-module _ {first end i : ℕ} {old heads : List ℕ} (w : SettlingHeads first end i old heads) where
-  pub settling_next : i < end → (code : ℕ) → code ≡ kind_code NTerm → (heads' : List ℕ) → heads' ≡ set heads (kind_at i) code → SettlingHeads first end (i + 1) old heads'
-  settling_next h code e heads' f =
-      let q : heads' ≡ set heads (kind_at i) (kind_code NTerm) = f ∙ ap (set heads (kind_at i)) e in
+module _ {first end i : ℕ} {old t : Sheet} (w : SettlingHeads first end i old t) where
+  pub settling_next : i < end → (code : ℕ) → code ≡ kind_code NTerm → (t' : Sheet) → t' ≡ with_heads t (set t.heads (kind_at i) code) → SettlingHeads first end (i + 1) old t'
+  settling_next h code e t' f =
+      let put : t'.heads ≡ set t.heads (kind_at i) code = ap (λ x. x.heads) f in
+      let q : t'.heads ≡ set t.heads (kind_at i) (kind_code NTerm) = put ∙ ap (set t.heads (kind_at i)) e in
       record {
         partly = λ bs rs a b g.
             let p = w.partly bs rs a b g in
-            rw q (partly_next bs rs i end heads p.done p.left p.is p.at p.rows b h);
-        kept = ap length q ∙ length-set heads (kind_at i) (kind_code NTerm) ∙ w.kept;
+            rw q (partly_next bs rs i end t.heads p.done p.left p.is p.at p.rows b h);
+        kept = ap length q ∙ length-set t.heads (kind_at i) (kind_code NTerm) ∙ w.kept;
+        others = f ∙ ap (λ x. with_heads x (set t.heads (kind_at i) code)) w.others ∙ ap (with_heads old) (sym put);
       }
 
-  pub settling_end : end ≤ i → Settled first end old heads
+  pub settling_end : end ≤ i → Settled first end old t
   settling_end h = record {
     rows = λ bs rs a b g.
         let p = w.partly bs rs a b g in
-        partly_end bs rs i end heads p.done p.left p.is p.at p.rows b h;
+        partly_end bs rs i end t.heads p.done p.left p.is p.at p.rows b h;
     kept = w.kept;
+    others = w.others;
   }
 
-pub settled_upto : {first k end : ℕ} {old heads : List ℕ} → k ≡ end → Settled first k old heads → Settled first end old heads
-settled_upto {first} {k} {end} {old} {heads} e w = subst (λ j. Settled first j old heads) e w
+pub settled_upto : {first k end : ℕ} {old t : Sheet} → k ≡ end → Settled first k old t → Settled first end old t
+settled_upto {first} {k} {end} {old} {t} e w = subst (λ j. Settled first j old t) e w

@@ -14,7 +14,9 @@ use Rattle.basics.specs.Each.{Each}
 use Rattle.classes.specs.Runs.{span}
 use Rattle.reading_laws.proofs.Acts.{ways, some_way, ends_run, ends_term, counts}
 use Rattle.reading_laws.proofs.Run.{rest}
-use Rattle.sheet.specs.Rows.{masses_room, Noted, Lettered, Roomy}
+use Rattle.sheet.specs.declared.Sheet.{Sheet}
+use Rattle.sheet.specs.Rows.{masses_room, Noted, Lettered}
+use Rattle.sheet.specs.Kept.{Sized}
 use Rattle.dues.specs.Ranks.{code, lowest}
 use Rattle.dues.specs.Lines.{uncut_rank, met_codes}
 use Rattle.walk.specs.declared.Stage.{Stage}
@@ -107,27 +109,12 @@ pub record Declares (m : Mode) (settled waits : List (Bracket ℕ)) : Type 0 whe
   pub last_bare : takes_list m ≡ true → LastBare settled
   pub none_waits : Each (λ k. is_declared k.kind ≡ false) waits
 
--- ---- the tables that are lent
-pub record TablesLent : Type 0 where
-  pub letters : List ℕ
-  pub sections : List ℕ
-  pub heads : List ℕ
-  pub parts : List ℕ
-  pub masses : List ℤ
-  pub scores : List ℤ
+-- ---- the sheet, with other rows of brackets, or with other residues
+abbrev pub with_heads : Sheet → List ℕ → Sheet
+with_heads t heads = record t { heads = heads }
 
-abbrev pub lent : List ℕ → List ℕ → List ℕ → List ℕ → List ℤ → List ℤ → TablesLent
-lent letters sections heads parts masses scores =
-    record { letters = letters; sections = sections; heads = heads; parts = parts; masses = masses; scores = scores }
-
-abbrev pub with_heads : TablesLent → List ℕ → TablesLent
-with_heads t heads = lent t.letters t.sections heads t.parts t.masses t.scores
-
-abbrev pub with_letters : TablesLent → List ℕ → List ℕ → TablesLent
-with_letters t letters sections = lent letters sections t.heads t.parts t.masses t.scores
-
-abbrev pub HasRoom : TablesLent → Type 0
-HasRoom t = Roomy t.letters t.sections t.heads t.parts t.masses t.scores
+abbrev pub with_letters : Sheet → List ℕ → List ℕ → Sheet
+with_letters t letters sections = record t { letters = letters; sections = sections }
 
 -- ---- what is known at a stage
 -- above every code
@@ -148,7 +135,7 @@ pub record BracketsAre (line : List ℕ) (n run m : ℕ) (settled waits : List (
   pub noted : Noted line (settled ++ waits) m heads parts masses scores
 
 -- the line is walked up to a place
-pub record Upto (line : List ℕ) (s : Stage) (t : TablesLent) : Type 0 where
+pub record Upto (line : List ℕ) (s : Stage) (t : Sheet) : Type 0 where
   pub held : Held ℕ
   pub is : reading line ≡ rest line s.at (outside s.mode held)
   pub within : s.at ≤ length line
@@ -159,10 +146,10 @@ pub record Upto (line : List ℕ) (s : Stage) (t : TablesLent) : Type 0 where
   pub least_is : s.least ≡ lowest nothing_due (met_codes held.residues (held_brackets held))
   pub few_residues : s.residues ≤ s.at
   pub few_brackets_lem : s.brackets ≤ s.at
-  pub roomy : HasRoom t
+  pub roomy : Sized t
 
 -- the byte at hand does what is said
-pub record Does (line : List ℕ) (s : Stage) (a : Act) (t : TablesLent) : Type 0 where
+pub record Does (line : List ℕ) (s : Stage) (a : Act) (t : Sheet) : Type 0 where
   pub upto : Upto line s t
   pub here : s.at < length line
   pub short : length line ≤ line_limit

@@ -21,7 +21,9 @@ use Rattle.classes.specs.Runs.{span}
 use Rattle.numerals.specs.Numerals.{CountAt}
 use Rattle.reading_laws.proofs.Run.{rest}
 use Rattle.sheet.specs.declared.Head.{Head}
-use Rattle.sheet.specs.Rows.{head_fields, head_note, heads_from, heads_room, parts_room, masses_room}
+use Rattle.sheet.specs.declared.Sheet.{Sheet}
+use Rattle.sheet.specs.Rows.{head_fields, head_note, heads_from}
+use Rattle.sheet.specs.Kept.{OnlyParts}
 use Rattle.sheet.specs.Fields.{count_at, places_at, written_count, head_row, HeadFits}
 use Rattle.sites.specs.Says.{ListReads}
 use Rattle.dues.specs.Ranks.{code, lowest}
@@ -31,7 +33,7 @@ use Rattle.inside.specs.Says.{Opening, PartsAre, Closes}
 use Rattle.walk.specs.declared.Stage.{Stage}
 use Rattle.walk.specs.declared.Step.{Step}
 use Rattle.walk.specs.declared.Step.TheVariants.{Stuck, More}
-use Rattle.walk.specs.Stages.{TablesLent, Upto, Low}
+use Rattle.walk.specs.Stages.{with_heads, with_letters, Upto, Low}
 
 -- ---- a byte that only carries the order on
 abbrev pub gone_to : Stage → Mode → Stage
@@ -44,10 +46,11 @@ settled_in s mode =
     record { at = s.at + 1; mode = mode; residues = s.residues; group = s.group; brackets = s.brackets; run = s.brackets; parts = s.parts; least = s.least }
 
 -- the rows from `first` up to `end` are of N-terminal brackets
-pub record Settled (first end : ℕ) (heads heads' : List ℕ) : Type 0 where
-  pub rows : (bs rs : List (Bracket ℕ)) → min first end ≡ length bs → end ≡ length bs + length rs → take (end * head_fields) heads ≡ heads_from 0 (bs ++ rs)
-      → take (end * head_fields) heads' ≡ heads_from 0 (bs ++ map as_nTerm rs)
-  pub kept : length heads' ≡ length heads
+pub record Settled (first end : ℕ) (t t' : Sheet) : Type 0 where
+  pub rows : (bs rs : List (Bracket ℕ)) → min first end ≡ length bs → end ≡ length bs + length rs → take (end * head_fields) t.heads ≡ heads_from 0 (bs ++ rs)
+      → take (end * head_fields) t'.heads ≡ heads_from 0 (bs ++ map as_nTerm rs)
+  pub kept : length t'.heads ≡ length t.heads
+  pub others : t' ≡ with_heads t t'.heads
 
 -- ---- a count
 -- of the last of n brackets, where it is noted
@@ -71,12 +74,12 @@ counted_to s next value =
       least = lowest s.least (map (code wide_rank) (due_at (wrong_count value) s.at));
     }
 
-pub record CountNoted (line : List ℕ) (s r : Stage) (heads heads' : List ℕ) : Type 0 where
+pub record CountNoted (line : List ℕ) (s r : Stage) (t t' : Sheet) : Type 0 where
   pub value : ℕ
   pub next : ℕ
   pub is : CountAt line s.at value next
   pub stage : r ≡ counted_to s next value
-  pub put : heads' ≡ count_put s.brackets value heads
+  pub put : t' ≡ with_heads t (count_put s.brackets value t.heads)
 
 -- ---- the places of a declaration
 -- of the last of n brackets, where it is noted
@@ -92,7 +95,7 @@ abbrev pub PlacesStuck : List ℕ → Stage → ℕ → Type 0
 PlacesStuck line s p = (h : Held ℕ) → rest line (s.at + 1) (placing h (expected [])) ≡ stuck p
 
 -- the list is read and noted
-pub record PlacesRead (line : List ℕ) (s r : Stage) (heads heads' : List ℕ) : Type 0 where
+pub record PlacesRead (line : List ℕ) (s r : Stage) (t t' : Sheet) : Type 0 where
   pub next : ℕ
   pub many : ℕ
   pub over : ℕ
@@ -100,11 +103,11 @@ pub record PlacesRead (line : List ℕ) (s r : Stage) (heads heads' : List ℕ) 
   pub least : ℕ
   pub least_is : least ≡ lowest s.least (map (code over_rank) (drop place_limit (map (λ p. p.at) reads.sites)))
   pub stage : r ≡ listed_to s next least
-  pub put : heads' ≡ places_put s.brackets (s.at + 1) many heads
+  pub put : t' ≡ with_heads t (places_put s.brackets (s.at + 1) many t.heads)
 
-abbrev pub PlacesStep : List ℕ → Stage → Step → List ℕ → List ℕ → Type 0
-PlacesStep line s (Stuck p) heads heads' = PlacesStuck line s p
-PlacesStep line s (More r) heads heads' = PlacesRead line s r heads heads'
+abbrev pub PlacesStep : List ℕ → Stage → Step → Sheet → Sheet → Type 0
+PlacesStep line s (Stuck p) t t' = PlacesStuck line s p
+PlacesStep line s (More r) t t' = PlacesRead line s r t t'
 
 -- ---- residues
 -- the section of a letter behind a residue of this section
@@ -150,10 +153,9 @@ letters_put line at m n letters = cond (leb (n + m) residue_limit) (sets letters
 abbrev pub sections_put : Section → ℕ → ℕ → List ℕ → List ℕ
 sections_put section m n sections = cond (leb (n + m) residue_limit) (sets sections n (sections_of section m)) sections
 
-pub record RunSays (line : List ℕ) (s : Stage) (section : Section) (mode : Mode) (r : Stage) (letters sections letters' sections' : List ℕ) : Type 0 where
+pub record RunSays (line : List ℕ) (s : Stage) (section : Section) (mode : Mode) (r : Stage) (t t' : Sheet) : Type 0 where
   pub stage : r ≡ with_run s section mode (run_at line s.at)
-  pub letters_put_is : letters' ≡ letters_put line s.at (run_at line s.at) s.residues letters
-  pub sections_put_is : sections' ≡ sections_put section (run_at line s.at) s.residues sections
+  pub put : t' ≡ with_letters t (letters_put line s.at (run_at line s.at) s.residues t.letters) (sections_put section (run_at line s.at) s.residues t.sections)
 
 -- ---- a bracket
 -- where it is noted
@@ -203,43 +205,48 @@ pub record HeadSays (s : Stage) (kind : Kind) (p : Parts) (r : Head) : Type 0 wh
       → head_row r ≡ head_note s.parts (bracket_of kind s.at ps h)
   pub fits : HeadFits r
 
-pub record NotedSays (s : Stage) (slot : Slot) (next : ℕ) (p : Parts) (r : Stage) (heads heads' : List ℕ) (scores scores' : List ℤ) : Type 0 where
+-- the row of bracket k and its score, where it is noted
+abbrev pub head_put : ℕ → List ℕ → ℤ → Sheet → Sheet
+head_put k row points t =
+    record t {
+      heads = cond (ltb k bracket_limit) (sets t.heads (k * head_fields) row) t.heads;
+      scores = cond (ltb k bracket_limit) (set t.scores k points) t.scores;
+    }
+
+pub record NotedSays (s : Stage) (slot : Slot) (next : ℕ) (p : Parts) (r : Stage) (t t' : Sheet) : Type 0 where
   pub stage : r ≡ bracket_behind s slot next p
   pub head : Head
   pub head_is : HeadSays s slot.kind p head
-  pub heads_put : heads' ≡ cond (noted? s) (sets heads (s.brackets * head_fields) (head_row head)) heads
-  pub scores_put : scores' ≡ cond (noted? s) (set scores s.brackets p.points) scores
+  pub put : t' ≡ head_put s.brackets (head_row head) p.points t
 
 -- what reading a bracket asks
-pub record BracketAsks (line : List ℕ) (s : Stage) (slot : Slot) (heads parts : List ℕ) (masses scores : List ℤ) : Type 0 where
+pub record BracketAsks (line : List ℕ) (s : Stage) (slot : Slot) : Type 0 where
   pub low : Low s
   pub here : s.at < length line
   pub short : length line ≤ line_limit
   pub with_labels : slot.refers ≡ true → slot.labels ≡ true
-  pub heads_room_is : heads_room ≤ length heads
-  pub parts_room_is : parts_room ≤ length parts
-  pub masses_room_is : masses_room ≤ length masses
-  pub scores_room : bracket_limit ≤ length scores
 
 -- no bracket goes on so
 abbrev pub BracketStuck : List ℕ → Stage → Slot → ℕ → Type 0
 BracketStuck line s slot p =
     (h : Held ℕ) → rest line (s.at + 1) (inside slot s.at h (begin (record { shut = slot.shut; refers = slot.refers; labels = slot.labels; parts = [] }))) ≡ stuck p
 
--- the bracket is read and noted
-pub record BracketRead (line : List ℕ) (s : Stage) (slot : Slot) (r : Stage) (heads heads' parts parts' : List ℕ) (masses masses' scores scores' : List ℤ) : Type 0 where
+-- the bracket is read and noted: `mid` is the sheet with its parts
+pub record BracketRead (line : List ℕ) (s : Stage) (slot : Slot) (r : Stage) (t t' : Sheet) : Type 0 where
   pub least : ℕ
   pub least_is : least ≡ least_before s slot.kind
   pub next : ℕ
   pub found : Parts
-  pub closes : Closes line (opening_of s slot least parts masses) next found parts' masses'
-  pub noted : NotedSays s slot next found r heads heads' scores scores'
+  pub mid : Sheet
+  pub closes : Closes line (opening_of s slot least t.parts t.masses) next found mid.parts mid.masses
+  pub others : OnlyParts t mid
+  pub noted : NotedSays s slot next found r mid t'
 
-abbrev pub BracketStep : List ℕ → Stage → Slot → Step → List ℕ → List ℕ → List ℕ → List ℕ → List ℤ → List ℤ → List ℤ → List ℤ → Type 0
-BracketStep line s slot (Stuck p) heads heads' parts parts' masses masses' scores scores' = BracketStuck line s slot p
-BracketStep line s slot (More r) heads heads' parts parts' masses masses' scores scores' = BracketRead line s slot r heads heads' parts parts' masses masses' scores scores'
+abbrev pub BracketStep : List ℕ → Stage → Slot → Step → Sheet → Sheet → Type 0
+BracketStep line s slot (Stuck p) t t' = BracketStuck line s slot p
+BracketStep line s slot (More r) t t' = BracketRead line s slot r t t'
 
 -- ---- one step further
-abbrev pub Stepped : List ℕ → Stage → Step → TablesLent → Type 0
+abbrev pub Stepped : List ℕ → Stage → Step → Sheet → Type 0
 Stepped line s (Stuck p) t = reading line ≡ stuck p
 Stepped line s (More r) t = Upto line r t × (s.at < r.at)

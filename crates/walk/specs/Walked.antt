@@ -2,15 +2,15 @@
 use Rattle.std.specs.Prelude.{◌≡◌, List, ℕ, length}
 use Rattle.scope.specs.Line.{Line}
 use Rattle.scope.specs.Reading.{stuck, holds, reading}
+use Rattle.sheet.specs.declared.Sheet.{Sheet}
 use Rattle.sheet.specs.Rows.{Noted, Lettered}
 use Rattle.scope.specs.Refusals.{line_refusals}
 use Rattle.dues.specs.Ranks.{lowest, no_code}
 use Rattle.dues.specs.Lines.{met_codes}
 use Rattle.walk.specs.declared.Walked.{Walked}
 use Rattle.walk.specs.declared.Walked.TheVariants.{Stuck, Holds}
-use Rattle.walk.specs.Stages.{TablesLent}
 
-pub record LineSays (line : List ℕ) (residues brackets least : ℕ) (t : TablesLent) : Type 0 where
+pub record LineSays (line : List ℕ) (residues brackets least : ℕ) (t : Sheet) : Type 0 where
   pub held : Line ℕ
   pub is : reading line ≡ holds held
   pub residues_are : residues ≡ length held.residues
@@ -20,6 +20,6 @@ pub record LineSays (line : List ℕ) (residues brackets least : ℕ) (t : Table
   pub noted : Noted line held.brackets parts t.heads t.parts t.masses t.scores
   pub lettered : Lettered held.residues t.letters t.sections
 
-abbrev pub WalkSays : List ℕ → Walked → TablesLent → Type 0
+abbrev pub WalkSays : List ℕ → Walked → Sheet → Type 0
 WalkSays line (Stuck p) t = reading line ≡ stuck p
 WalkSays line (Holds residues brackets least) t = LineSays line residues brackets least t

@@ -9,16 +9,16 @@ ghost use Rattle.scope.specs.Limits.{line_limit, residue_limit, bracket_limit, p
 ghost use Rattle.scope.specs.Lists.{part};
 ghost use Rattle.scope.specs.Reading.{position_of};
 ghost use Rattle.classes.specs.Runs.{span};
-ghost use Rattle.sheet.specs.Rows.{head_fields, heads_room, Roomy};
+ghost use Rattle.sheet.specs.declared.Sheet.{Sheet};
 ghost use Rattle.sheet.specs.Fields.{head_row, HeadFits};
-ghost use Rattle.walk.specs.Stages.{TablesLent, lent, Upto, Low, first_stage};
-ghost use Rattle.walk.specs.Steps.{gone_to, settled_in, Settled, count_put, wrong_count, CountNoted, places_put, PlacesStep, behind, group_of, letters_put, sections_put, RunSays, run_behind, HeadSays, NotedSays, least_before, BracketAsks, BracketStep, Stepped};
+ghost use Rattle.walk.specs.Stages.{with_heads, with_letters, Upto, Low, first_stage};
+ghost use Rattle.walk.specs.Steps.{gone_to, settled_in, head_put, Settled, count_put, wrong_count, CountNoted, places_put, PlacesStep, behind, group_of, letters_put, sections_put, RunSays, run_behind, HeadSays, NotedSays, least_before, BracketAsks, BracketStep, Stepped};
 ghost use Rattle.walk.specs.Walked.{WalkSays};
 
 use inside::{BracketAt, Parts};
 use scope::grammar::{Act, Kind, Mode, Section, Slot};
 use scope::tables::Tables;
-use sheet::Head;
+use sheet::{Head, Sheet};
 use sites::Listed;
 
 // The place where no line goes on; or how many residues and brackets the line holds, and the first refusal due of 5 to 9 and 19.
@@ -138,23 +138,21 @@ fn section_behind(section: Section) -> Section
 }
 
 // The m residues at `at`, behind the first n, where they are not too many.
-fn store_run(
-    letters: &mut [u8],
-    sections: &mut [u8],
-    n: usize,
-    line: &[u8],
-    at: usize,
-    m: usize,
-    section: Section,
-)
-    requires { (at + m ≤ length line.now) × (length line.now ≤ line_limit) × (n ≤ at) × (0 < m) × (residue_limit ≤ length letters.old) × (residue_limit ≤ length sections.old) }
-    ensures { (letters.new ≡ letters_put line.now at m n letters.old) × (sections.new ≡ sections_put section m n sections.old) }
+fn store_run(sheet: &mut Sheet, n: usize, line: &[u8], at: usize, m: usize, section: Section)
+    requires { (at + m ≤ length line.now) × (length line.now ≤ line_limit) × (n ≤ at) × (0 < m) }
+    ensures { sheet.new ≡ with_letters sheet.old (letters_put line.now at m n sheet.old.letters) (sections_put section m n sheet.old.sections) }
 {
     let end = n + m;
     if end <= Tables::RESIDUES {
-        store_letters(letters, n, line, at, m);
+        store_letters(&mut sheet.letters, n, line, at, m);
         let next = section_behind(section);
-        store_sections(sections, n, end, section_code(section), section_code(next));
+        store_sections(
+            &mut sheet.sections,
+            n,
+            end,
+            section_code(section),
+            section_code(next),
+        );
     }
 }
 
@@ -182,22 +180,15 @@ fn room_left(n: usize) -> usize
 }
 
 // A residue, with all letters behind it: they are residues of the same element or group.
-fn residues_read(
-    line: &[u8],
-    letters: &mut [u8],
-    sections: &mut [u8],
-    s: Stage,
-    section: Section,
-    mode: Mode,
-) -> Stage
-    requires { Low s × (s.at < length line.now) × (length line.now ≤ line_limit) × (residue_limit ≤ length letters.old) × (residue_limit ≤ length sections.old) }
-    ensures { RunSays line.now s section mode result letters.old sections.old letters.new sections.new }
+fn residues_read(line: &[u8], sheet: &mut Sheet, s: Stage, section: Section, mode: Mode) -> Stage
+    requires { Low s × (s.at < length line.now) × (length line.now ≤ line_limit) }
+    ensures { RunSays line.now s section mode result sheet.old sheet.new }
 {
     let at = s.at;
     let n = s.residues;
     let end = letter_end(line, at + 1);
     let m = end - at;
-    store_run(letters, sections, n, line, at, m, section);
+    store_run(sheet, n, line, at, m, section);
     let least = dues::due_if(
         s.least,
         Tables::RESIDUES < n + m,
@@ -251,13 +242,13 @@ fn head_of(s: Stage, kind: Kind, p: Parts) -> Head
 }
 
 // Bracket k, where it is noted.
-fn store_head(heads: &mut [u16], scores: &mut [i64], k: usize, head: Head, points: i64)
-    requires { (heads_room ≤ length heads.old) × (bracket_limit ≤ length scores.old) × HeadFits head }
-    ensures { (heads.new ≡ cond (ltb k bracket_limit) (sets heads.old (k * head_fields) (head_row head)) heads.old) × (scores.new ≡ cond (ltb k bracket_limit) (set scores.old k points) scores.old) }
+fn store_head(sheet: &mut Sheet, k: usize, head: Head, points: i64)
+    requires { HeadFits head }
+    ensures { sheet.new ≡ head_put k (head_row head) points sheet.old }
 {
     if k < Tables::BRACKETS {
-        sheet::put_head(heads, k, head);
-        scores[k] = points;
+        sheet.put_head(k, head);
+        sheet.scores[k] = points;
     }
 }
 
@@ -297,21 +288,14 @@ fn parts_behind(noted: bool, base: usize, count: usize) -> usize
 }
 
 // A bracket that was read is noted.
-fn bracket_noted(
-    heads: &mut [u16],
-    scores: &mut [i64],
-    s: Stage,
-    slot: Slot,
-    next: usize,
-    p: Parts,
-) -> Stage
-    requires { Low s × (p.count ≤ line_limit) × (p.labels ≤ p.count) × (heads_room ≤ length heads.old) × (bracket_limit ≤ length scores.old) }
-    ensures { NotedSays s slot next p result heads.old heads.new scores.old scores.new }
+fn bracket_noted(sheet: &mut Sheet, s: Stage, slot: Slot, next: usize, p: Parts) -> Stage
+    requires { Low s × (p.count ≤ line_limit) × (p.labels ≤ p.count) }
+    ensures { NotedSays s slot next p result sheet.old sheet.new }
 {
     let kind = slot.kind;
     let points = p.points;
     let head = head_of(s, kind, p);
-    store_head(heads, scores, s.brackets, head, points);
+    store_head(sheet, s.brackets, head, points);
     let mode = mode_behind(slot, p.refers);
     Stage {
         at: next,
@@ -340,24 +324,15 @@ fn least_before(s: Stage, kind: Kind) -> usize
 }
 
 // A bracket.
-fn bracket_read(
-    line: &[u8],
-    heads: &mut [u16],
-    parts: &mut [u16],
-    masses: &mut [i64],
-    scores: &mut [i64],
-    s: Stage,
-    slot: Slot,
-) -> Step
-    requires { BracketAsks line.now s slot heads.old parts.old masses.old scores.old }
-    ensures { BracketStep line.now s slot result heads.old heads.new parts.old parts.new masses.old masses.new scores.old scores.new }
+fn bracket_read(line: &[u8], sheet: &mut Sheet, s: Stage, slot: Slot) -> Step
+    requires { BracketAsks line.now s slot }
+    ensures { BracketStep line.now s slot result sheet.old sheet.new }
 {
     let kind = slot.kind;
     let least = least_before(s, kind);
     let found = inside::bracket_at(
         line,
-        parts,
-        masses,
+        sheet,
         s.at + 1,
         slot.shut,
         slot.refers,
@@ -368,21 +343,19 @@ fn bracket_read(
     );
     match found {
         BracketAt::Stuck(p) => Step::Stuck(p),
-        BracketAt::Read { next, parts: p } => Step::More(bracket_noted(
-            heads, scores, s, slot, next, p,
-        )),
+        BracketAt::Read { next, parts: p } => Step::More(bracket_noted(sheet, s, slot, next, p)),
     }
 }
 
 // ---- a count
 
 // The count of the last of n brackets, where it is noted.
-fn store_count(heads: &mut [u16], n: usize, value: usize)
-    requires { (heads_room ≤ length heads.old) × (0 < n) × (value ≤ count_limit + 1) }
-    ensures { heads.new ≡ count_put n value heads.old }
+fn store_count(sheet: &mut Sheet, n: usize, value: usize)
+    requires { (0 < n) × (value ≤ count_limit + 1) }
+    ensures { sheet.new ≡ with_heads sheet.old (count_put n value sheet.old.heads) }
 {
     if n <= Tables::BRACKETS {
-        sheet::put_count(heads, n - 1, value);
+        sheet.put_count(n - 1, value);
     }
 }
 
@@ -397,14 +370,14 @@ fn is_wrong_count(value: usize) -> bool
 }
 
 // The digits of a count.
-fn count_read(line: &[u8], heads: &mut [u16], s: Stage) -> Stage
-    requires { Low s × (0 < s.brackets) × (heads_room ≤ length heads.old) }
-    ensures { CountNoted line.now s result heads.old heads.new }
+fn count_read(line: &[u8], sheet: &mut Sheet, s: Stage) -> Stage
+    requires { Low s × (0 < s.brackets) }
+    ensures { CountNoted line.now s result sheet.old sheet.new }
 {
     let at = s.at;
     let count = numerals::count_at(line, at);
     let value = count.value;
-    store_count(heads, s.brackets, value);
+    store_count(sheet, s.brackets, value);
     let least = dues::due_if(s.least, is_wrong_count(value), dues::WIDE, at);
     Stage {
         at: count.next,
@@ -421,26 +394,26 @@ fn count_read(line: &[u8], heads: &mut [u16], s: Stage) -> Stage
 // ---- the places of a declaration
 
 // Those of the last of n brackets, where it is noted.
-fn store_places(heads: &mut [u16], n: usize, from: usize, many: usize)
-    requires { (heads_room ≤ length heads.old) × (0 < n) × (from < wide_limit) × (many < wide_limit) }
-    ensures { heads.new ≡ places_put n from many heads.old }
+fn store_places(sheet: &mut Sheet, n: usize, from: usize, many: usize)
+    requires { (0 < n) × (from < wide_limit) × (many < wide_limit) }
+    ensures { sheet.new ≡ with_heads sheet.old (places_put n from many sheet.old.heads) }
 {
     if n <= Tables::BRACKETS {
-        sheet::put_places(heads, n - 1, from, many);
+        sheet.put_places(n - 1, from, many);
     }
 }
 
 // The list behind `@`.
-fn places_read(line: &[u8], heads: &mut [u16], s: Stage) -> Step
-    requires { Low s × (s.at < length line.now) × (length line.now ≤ line_limit) × (0 < s.brackets) × (heads_room ≤ length heads.old) }
-    ensures { PlacesStep line.now s result heads.old heads.new }
+fn places_read(line: &[u8], sheet: &mut Sheet, s: Stage) -> Step
+    requires { Low s × (s.at < length line.now) × (length line.now ≤ line_limit) × (0 < s.brackets) }
+    ensures { PlacesStep line.now s result sheet.old sheet.new }
 {
     let from = s.at + 1;
     let list = sites::list_at(line, from);
     match list {
         Listed::Stuck(p) => Step::Stuck(p),
         Listed::Ends { next, many, over } => {
-            store_places(heads, s.brackets, from, many);
+            store_places(sheet, s.brackets, from, many);
             let least = dues::first_due(s.least, dues::OVER, over);
             Step::More(Stage {
                 at: next,
@@ -476,14 +449,12 @@ fn settled_in(s: Stage, mode: Mode) -> Stage
 }
 
 // The brackets from `first` up to `end` are N-terminal.
-fn settle(heads: &mut [u16], first: usize, end: usize)
-    requires { (end ≤ bracket_limit) × (heads_room ≤ length heads.old) }
-    ensures { Settled first end heads.old heads.new }
+fn settle(sheet: &mut Sheet, first: usize, end: usize)
+    requires { end ≤ bracket_limit }
+    ensures { Settled first end sheet.old sheet.new }
 {
-    let mut i = first;
-    while i < end {
-        sheet::put_kind(heads, i, Kind::NTerm.code());
-        i += 1;
+    for i in first..end {
+        sheet.put_kind(i, Kind::NTerm as usize);
     }
 }
 
@@ -498,29 +469,20 @@ fn noted_of(n: usize) -> usize
 }
 
 // `-`: they are N-terminal.
-fn term_ended(heads: &mut [u16], s: Stage) -> Stage
-    requires { Low s × (heads_room ≤ length heads.old) }
-    ensures { (result ≡ settled_in s Mode.Start) × Settled s.run (min s.brackets bracket_limit) heads.old heads.new }
+fn term_ended(sheet: &mut Sheet, s: Stage) -> Stage
+    requires { Low s }
+    ensures { (result ≡ settled_in s Mode.Start) × Settled s.run (min s.brackets bracket_limit) sheet.old sheet.new }
 {
-    settle(heads, s.run, noted_of(s.brackets));
+    settle(sheet, s.run, noted_of(s.brackets));
     settled_in(s, Mode::Start)
 }
 
 // ---- the line
 
 // One byte further, or one bracket, one count, one list of places, or all residues up to the next byte that is none.
-fn step_from(
-    line: &[u8],
-    letters: &mut [u8],
-    sections: &mut [u8],
-    heads: &mut [u16],
-    parts: &mut [u16],
-    masses: &mut [i64],
-    scores: &mut [i64],
-    s: Stage,
-) -> Step
-    requires { (length line.now ≤ line_limit) × (s.at < length line.now) × Upto line.now s (lent letters.old sections.old heads.old parts.old masses.old scores.old) }
-    ensures { Stepped line.now s result (lent letters.new sections.new heads.new parts.new masses.new scores.new) }
+fn step_from(line: &[u8], sheet: &mut Sheet, s: Stage) -> Step
+    requires { (length line.now ≤ line_limit) × (s.at < length line.now) × Upto line.now s sheet.old }
+    ensures { Stepped line.now s result sheet.new }
 {
     let at = s.at;
     let mode = s.mode;
@@ -528,21 +490,19 @@ fn step_from(
     match act {
         Act::Stop => Step::Stuck(at),
         Act::Go(m) => Step::More(gone(s, m)),
-        Act::Residue(section, m) => Step::More(residues_read(
-            line, letters, sections, s, section, m,
-        )),
-        Act::Begin(slot) => bracket_read(line, heads, parts, masses, scores, s, slot),
-        Act::Digit => Step::More(count_read(line, heads, s)),
+        Act::Residue(section, m) => Step::More(residues_read(line, sheet, s, section, m)),
+        Act::Begin(slot) => bracket_read(line, sheet, s, slot),
+        Act::Digit => Step::More(count_read(line, sheet, s)),
         Act::RunEnds => Step::More(settled_in(s, Mode::Runs)),
-        Act::TermEnds => Step::More(term_ended(heads, s)),
-        Act::Places => places_read(line, heads, s),
+        Act::TermEnds => Step::More(term_ended(sheet, s)),
+        Act::Places => places_read(line, sheet, s),
     }
 }
 
 // Behind the last byte.
 fn line_ended(line: &[u8], s: Stage) -> Walked
     requires { length line.now ≤ s.at }
-    ensures { (t : TablesLent) → Upto line.now s t → WalkSays line.now result t }
+    ensures { (t : Sheet) → Upto line.now s t → WalkSays line.now result t }
 {
     let mode = s.mode;
     if order::may_end(mode) {
@@ -571,23 +531,15 @@ fn first_stage() -> Stage
     }
 }
 
-// A line of at most 4,096 bytes. The tables have room for what is noted of any line, and may hold anything before.
-pub fn walk(
-    line: &[u8],
-    letters: &mut [u8],
-    sections: &mut [u8],
-    heads: &mut [u16],
-    parts: &mut [u16],
-    masses: &mut [i64],
-    scores: &mut [i64],
-) -> Walked
-    requires line_len_bound { length line.now ≤ line_limit }
-    requires roomy { Roomy letters.old sections.old heads.old parts.old masses.old scores.old }
-    ensures { WalkSays line.now result (lent letters.new sections.new heads.new parts.new masses.new scores.new) }
+// A line of at most 4,096 bytes. The sheet may hold anything before.
+pub fn walk(line: &[u8], sheet: &mut Sheet) -> Walked
+    requires { length line.now ≤ line_limit }
+    ensures { WalkSays line.now result sheet.new }
 {
+    sheet.sized();
     let mut s = first_stage();
     while s.at < line.len() {
-        let next = step_from(line, letters, sections, heads, parts, masses, scores, s);
+        let next = step_from(line, sheet, s);
         match next {
             Step::Stuck(p) => return Walked::Stuck(p),
             Step::More(t) => s = t,

@@ -7,10 +7,10 @@ pub loop-i-init : goal.loop-i-init
 loop-i-init c = among_starts _ _ _ _
 
 pub overflow_add-y : goal.overflow_add-y
-overflow_add-y c = omega (arith, (c.requires.2 c.loop-i.i c.loop-i-test.true).noted)
+overflow_add-y c = omega (arith, (c.requires.1 c.loop-i.i c.loop-i-test.true).noted)
 
 pub same_label-requires : goal.same_label-requires
-same_label-requires c = (c.requires.0, c.requires.1, c.requires.2 c.loop-i.i c.loop-i-test.true)
+same_label-requires c = (c.requires.0, c.requires.1 c.loop-i.i c.loop-i-test.true)
 
 pub returns-then-same_label : goal.returns-then-same_label
 returns-then-same_label c = among_found _ _ _ _ _ c.loop-i.invariant c.loop-i-test.true c.same_label.ensures c.if-same_label.true

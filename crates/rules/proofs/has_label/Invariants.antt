@@ -5,7 +5,4 @@ use Prim.Native.Nat.{◌-◌}
 use Rattle.rules.proofs.has_label.Given as goal
 
 abbrev pub invariant-loop-i : goal.invariant-loop-i
-invariant-loop-i l = NotAmong (name_at l.line l.parts l.x) (name_at l.line l.parts) l.y l.m l.i
-
-abbrev pub decreases-loop-i : goal.decreases-loop-i
-decreases-loop-i l = l.m - l.i
+invariant-loop-i l = NotAmong (name_at l.line l.sheet.parts l.x) (name_at l.line l.sheet.parts) l.y l.m l.i

@@ -5,7 +5,4 @@ use Prim.Native.Nat.{◌-◌}
 use Rattle.rules.proofs.is_named.Given as goal
 
 abbrev pub invariant-loop-k : goal.invariant-loop-k
-invariant-loop-k l = NotNamed l.line l.heads l.parts l.refers (name_at l.line l.parts l.x) l.e l.k
-
-abbrev pub decreases-loop-k : goal.decreases-loop-k
-decreases-loop-k l = l.e - l.k
+invariant-loop-k l = NotNamed l.line l.sheet.heads l.sheet.parts l.refers (name_at l.line l.sheet.parts l.x) l.e l.k

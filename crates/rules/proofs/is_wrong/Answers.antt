@@ -6,26 +6,26 @@ use Rattle.rules.proofs.is_wrong.Goals as goal
 
 pub returns-then-labels-eq0 : goal.returns-then-labels-eq0
 returns-then-labels-eq0 c =
-    wrong_none c.args.line.now c.args.heads.now c.args.parts.now c.args.n c.args.k c.labels_of-labels.ensures.0 c.if-labels-eq0.true
+    wrong_none c.args.line.now c.args.sheet.now.heads c.args.sheet.now.parts c.args.n c.args.k c.labels_of-labels.ensures.0 c.if-labels-eq0.true
 
 pub returns-then-labels-gt1 : goal.returns-then-labels-gt1
 returns-then-labels-gt1 c =
-    wrong_two c.args.line.now c.args.heads.now c.args.parts.now c.args.n c.args.k c.labels_of-labels.ensures.0 c.if-labels-eq0.false c.if-labels-gt1.true
+    wrong_two c.args.line.now c.args.sheet.now.heads c.args.sheet.now.parts c.args.n c.args.k c.labels_of-labels.ensures.0 c.if-labels-eq0.false c.if-labels-gt1.true
 
 pub returns-then-is_counted : goal.returns-then-is_counted
 returns-then-is_counted c =
-    wrong_counted c.args.line.now c.args.heads.now c.args.parts.now c.args.n c.args.k c.labels_of-labels.ensures.0 c.if-labels-eq0.false c.if-labels-gt1.false c.is_counted.ensures c.if-is_counted.true
+    wrong_counted c.args.line.now c.args.sheet.now.heads c.args.sheet.now.parts c.args.n c.args.k c.labels_of-labels.ensures.0 c.if-labels-eq0.false c.if-labels-gt1.false c.is_counted.ensures c.if-is_counted.true
 
 pub labelled_part-requires : goal.labelled_part-requires
 labelled_part-requires c =
     let e = c.labels_of-labels.ensures.0 in
     let some = c.if-labels-eq0.false in
-    (c.requires.0.heads_room_is, omega (arith, c.requires.0.few, c.requires.1), c.requires.0.parts_room_is, some_parts c.args.line.now c.args.heads.now c.args.parts.now c.args.n c.args.k c.requires.0 c.requires.1 e some, parts_fit c.args.line.now c.args.heads.now c.args.parts.now c.args.n c.args.k c.requires.0 c.requires.1 e some)
+    (omega (arith, c.requires.0.few, c.requires.1), some_parts c.args.line.now c.args.sheet.now.heads c.args.sheet.now.parts c.args.n c.args.k c.requires.0 c.requires.1 e some, parts_fit c.args.line.now c.args.sheet.now.heads c.args.sheet.now.parts c.args.n c.args.k c.requires.0 c.requires.1 e some)
 
 pub is_wrong_label-requires : goal.is_wrong_label-requires
 is_wrong_label-requires c =
-    (c.requires.0, c.requires.1, labelled_legible c.args.line.now c.args.heads.now c.args.parts.now c.args.n c.args.k c.requires.0 c.requires.1 c.labels_of-labels.ensures.0 c.if-labels-eq0.false c.labelled_part.ensures)
+    (c.requires.0, c.requires.1, labelled_legible c.args.line.now c.args.sheet.now.heads c.args.sheet.now.parts c.args.n c.args.k c.requires.0 c.requires.1 c.labels_of-labels.ensures.0 c.if-labels-eq0.false c.labelled_part.ensures)
 
 pub returns : goal.returns
 returns c =
-    wrong_one c.args.line.now c.args.heads.now c.args.parts.now c.args.n c.args.k c.labels_of-labels.ensures.0 c.if-labels-eq0.false c.if-labels-gt1.false c.is_counted.ensures c.if-is_counted.false c.labelled_part.ensures c.is_wrong_label.ensures
+    wrong_one c.args.line.now c.args.sheet.now.heads c.args.sheet.now.parts c.args.n c.args.k c.labels_of-labels.ensures.0 c.if-labels-eq0.false c.if-labels-gt1.false c.is_counted.ensures c.if-is_counted.false c.labelled_part.ensures c.is_wrong_label.ensures

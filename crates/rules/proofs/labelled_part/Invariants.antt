@@ -5,7 +5,4 @@ use Prim.Native.Nat.{◌-◌}
 use Rattle.rules.proofs.labelled_part.Given as goal
 
 abbrev pub invariant-loop-x : goal.invariant-loop-x
-invariant-loop-x l = SeekingLabel l.parts (base_field l.heads l.k) (parts_field l.heads l.k - 1) l.last l.x
-
-abbrev pub decreases-loop-x : goal.decreases-loop-x
-decreases-loop-x l = l.last - l.x
+invariant-loop-x l = SeekingLabel l.sheet.parts (base_field l.sheet.heads l.k) (parts_field l.sheet.heads l.k - 1) l.last l.x

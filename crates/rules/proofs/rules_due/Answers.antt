@@ -12,7 +12,7 @@ loop-k-init c = gather_starts _ _ _ _ _
 pub copies_of-requires : goal.copies_of-requires
 copies_of-requires c =
     let p = c.requires.1 in
-    (p.heads_room_is, omega (arith, p.few, c.loop-k-test.true))
+    omega (arith, p.few, c.loop-k-test.true)
 
 pub overflow_add-after : goal.overflow_add-after
 overflow_add-after c =

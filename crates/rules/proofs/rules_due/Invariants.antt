@@ -5,7 +5,4 @@ use Prim.Native.Nat.{◌-◌}
 use Rattle.rules.proofs.rules_due.Given as goal
 
 abbrev pub invariant-loop-k : goal.invariant-loop-k
-invariant-loop-k l = Gathering l.line l.heads l.parts l.n l.least l.first l.floaters l.k
-
-abbrev pub decreases-loop-k : goal.decreases-loop-k
-decreases-loop-k l = l.n - l.k
+invariant-loop-k l = Gathering l.line l.sheet.heads l.sheet.parts l.n l.least l.first l.floaters l.k

@@ -12,7 +12,7 @@ pub store_places-requires : goal.store_places-requires
 store_places-requires c =
     let p = c.requires in
     let w = then_reads _ _ c.list_at-list.result c.list_at-list.ensures c.in-Ends.is in
-    (p.4, p.3, omega (arith, p.1, p.2), omega (arith, w.many_within, w.within, p.2))
+    (p.3, omega (arith, p.1, p.2), omega (arith, w.many_within, w.within, p.2))
 
 pub first_due-least-requires : goal.first_due-least-requires
 first_due-least-requires c =

@@ -12,7 +12,7 @@ gone-requires c = low (does_this c.requires c.act_of-act.ensures c.in-Go.is)
 pub residues_read-requires : goal.residues_read-requires
 residues_read-requires c =
     let d = does_this c.requires c.act_of-act.ensures c.in-Residue.is in
-    (low d, d.here, d.short, d.upto.roomy.letters_room, d.upto.roomy.sections_room)
+    (low d, d.here, d.short)
 
 pub bracket_read-requires : goal.bracket_read-requires
 bracket_read-requires c = bracket_asks (does_this c.requires c.act_of-act.ensures c.in-Begin.is)
@@ -20,20 +20,18 @@ bracket_read-requires c = bracket_asks (does_this c.requires c.act_of-act.ensure
 pub count_read-requires : goal.count_read-requires
 count_read-requires c =
     let d = does_this c.requires c.act_of-act.ensures c.in-Digit.is in
-    (low d, some_bracket d, d.upto.roomy.heads_room_is)
+    (low d, some_bracket d)
 
 pub settled_in-requires : goal.settled_in-requires
 settled_in-requires c = low (does_this c.requires c.act_of-act.ensures c.in-RunEnds.is)
 
 pub term_ended-requires : goal.term_ended-requires
-term_ended-requires c =
-    let d = does_this c.requires c.act_of-act.ensures c.in-TermEnds.is in
-    (low d, d.upto.roomy.heads_room_is)
+term_ended-requires c = low (does_this c.requires c.act_of-act.ensures c.in-TermEnds.is)
 
 pub places_read-requires : goal.places_read-requires
 places_read-requires c =
     let d = does_this c.requires c.act_of-act.ensures c.in-Places.is in
-    (low d, d.here, d.short, a_bracket d, d.upto.roomy.heads_room_is)
+    (low d, d.here, d.short, a_bracket d)
 
 pub returns-in-Stop : goal.returns-in-Stop
 returns-in-Stop c = stopped (does_this c.requires c.act_of-act.ensures c.in-Stop.is)
@@ -46,7 +44,7 @@ returns-in-Residue c = run_more (does_this c.requires c.act_of-act.ensures c.in-
 
 pub returns-in-Begin : goal.returns-in-Begin
 returns-in-Begin c =
-    bracket_step (does_this c.requires c.act_of-act.ensures c.in-Begin.is) c.bracket_read.result _ _ _ _ c.bracket_read.ensures
+    bracket_step (does_this c.requires c.act_of-act.ensures c.in-Begin.is) c.bracket_read.result _ c.bracket_read.ensures
 
 pub returns-in-Digit : goal.returns-in-Digit
 returns-in-Digit c = count_more (does_this c.requires c.act_of-act.ensures c.in-Digit.is) c.count_read.ensures

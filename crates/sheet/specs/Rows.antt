@@ -166,13 +166,3 @@ pub record Roomy (letters sections heads parts : List ℕ) (masses scores : List
   pub parts_room_is : parts_room ≤ length parts
   pub masses_room_is : masses_room ≤ length masses
   pub scores_room : bracket_limit ≤ length scores
-
--- the line is accepted, and what was read of it is in the sheet: l is what is kept of that
-pub record LineNoted (line letters sections heads parts : List ℕ) (masses scores : List ℤ) (residues brackets : ℕ) (l : Line ℕ) : Type 0 where
-  pub taken : Taken line l
-  pub parts_many : ℕ
-  pub noted : Noted line taken.read.brackets parts_many heads parts masses scores
-  pub lettered : Lettered taken.read.residues letters sections
-  pub roomy : Roomy letters sections heads parts masses scores
-  pub residues_are : residues ≡ length taken.read.residues
-  pub brackets_are : brackets ≡ length taken.read.brackets

@@ -36,6 +36,18 @@ impl Sheet {
 
     pub const PARTS: usize = Self::MASSES * Self::PART;
 
+    // An empty one.
+    pub fn new() -> Sheet {
+        Sheet {
+            letters: [0; Tables::RESIDUES],
+            sections: [0; Tables::RESIDUES],
+            heads: [0; Sheet::HEADS],
+            parts: [0; Sheet::PARTS],
+            masses: [0; Sheet::MASSES],
+            scores: [0; Tables::BRACKETS],
+        }
+    }
+
     // Each table has its size: a promise of the type, for proofs.
     pub fn sized(&self)
         ensures { Sized self.now }

@@ -23,7 +23,8 @@ use Rattle.reading_laws.specs.Laws.{Clear}
 use Rattle.reading_laws.proofs.Printable.{order_printable}
 use Rattle.reading_laws.proofs.Taken.{Taken, taken, taken_back}
 use Rattle.classes.specs.Runs.{span}
-use Rattle.sheet.specs.Rows.{Roomy, LineNoted}
+use Rattle.sheet.specs.declared.Sheet.{Sheet}
+use Rattle.sheet.specs.Kept.{LineNoted}
 use Rattle.dues.specs.Ranks.{code, lowest, no_code, number_at, decoded}
 use Rattle.dues.specs.First.{Fits}
 use Rattle.dues.specs.Lines.{info_rank, met_codes, ruled_codes}
@@ -33,7 +34,6 @@ use Rattle.dues.specs.Inside.{places_fit}
 use Rattle.dues.specs.Few.{FewOf, few_of}
 use Rattle.rules.specs.Ruled.{Ruled, Finds}
 use Rattle.rules.specs.Shapes.{all_shaped}
-use Rattle.walk.specs.Stages.{lent}
 use Rattle.walk.specs.Walked.{LineSays}
 use Rattle.verdict.specs.declared.Judged.{Judged}
 use Rattle.verdict.specs.declared.Judged.TheVariants.{Refused, Holds}
@@ -87,8 +87,6 @@ module _ {line heads parts : List ℕ} {brackets least : ℕ} (w : WalkedLine li
           masses = w.masses;
           scores = w.scores;
           noted = w.noted;
-          heads_room_is = w.heads_room_is;
-          parts_room_is = w.parts_room_is;
         }
 
     pub ruled_is_first : {c many : ℕ} → ((ks : List (Bracket ℕ)) → Ruled line heads parts brackets ks → Finds ks least c many)
@@ -127,26 +125,10 @@ as_many_float : (l : Line ℕ) → length (floaters l) ≡ length (floaters (kep
 as_many_float l = sym (ap length (floaters_kept l) ∙ length-map (floaters l) kept_bracket)
 
 -- ---- the answer
--- tables that keep their lengths keep their room
-pub still_roomy : {letters sections heads parts letters' sections' heads' parts' : List ℕ} {masses scores masses' scores' : List ℤ}
-    → Roomy letters sections heads parts masses scores
-    → length letters' ≡ length letters → length sections' ≡ length sections → length heads' ≡ length heads → length parts' ≡ length parts
-    → length masses' ≡ length masses → length scores' ≡ length scores
-    → Roomy letters' sections' heads' parts' masses' scores'
-still_roomy w a b c d e f =
-    record {
-      letters_room = omega (arith, w.letters_room);
-      sections_room = omega (arith, w.sections_room);
-      heads_room_is = omega (arith, w.heads_room_is);
-      parts_room_is = omega (arith, w.parts_room_is);
-      masses_room_is = omega (arith, w.masses_room_is);
-      scores_room = omega (arith, w.scores_room);
-    }
-
 module _ (line : List ℕ) (some_byte : length line ≡ 0 → ⊥) (short : length line ≤ line_limit)
-    (letters sections heads parts : List ℕ) (masses scores : List ℤ) where
+    (sheet : Sheet) where
   abbrev Says : Judged → Type 0
-  Says r = JudgedSays line r letters sections heads parts masses scores
+  Says r = JudgedSays line r sheet
 
   pub stuck_says : (p : ℕ) (r : Judged) → reading line ≡ stuck p → r ≡ unread line p → Says r
   stuck_says p r e q = subst Says (sym q) (go (ltb (span is_printable line) (length line)) refl)
@@ -155,9 +137,8 @@ module _ (line : List ℕ) (some_byte : length line ≡ 0 → ⊥) (short : leng
       go true u = is_unprintable line some_byte short (span is_printable line) (first_unprintable line (ltb-true _ _ u))
       go false u = is_stuck line some_byte short p (no_unprintable line (ltb-false _ _ u)) e
 
-  module _ {residues brackets least : ℕ} (w : LineSays line residues brackets least (lent letters sections heads parts masses scores))
-      (roomy : Roomy letters sections heads parts masses scores) where
-    pub walked_line : WalkedLine line heads parts brackets least
+  module _ {residues brackets least : ℕ} (w : LineSays line residues brackets least sheet) where
+    pub walked_line : WalkedLine line sheet.heads sheet.parts brackets least
     walked_line =
         record {
           held = w.held;
@@ -166,11 +147,9 @@ module _ (line : List ℕ) (some_byte : length line ≡ 0 → ⊥) (short : leng
           brackets_are = w.brackets_are;
           least_is = w.least_is;
           parts_many = w.parts;
-          masses = masses;
-          scores = scores;
+          masses = sheet.masses;
+          scores = sheet.scores;
           noted = w.noted;
-          heads_room_is = roomy.heads_room_is;
-          parts_room_is = roomy.parts_room_is;
         }
 
     pub line_says : (c many : ℕ) (r : Judged) → ((l : Line ℕ) → reading line ≡ holds l → FirstOf l c many)
@@ -198,7 +177,6 @@ module _ (line : List ℕ) (some_byte : length line ≡ 0 → ⊥) (short : leng
             parts_many = w.parts;
             noted = w.noted;
             lettered = w.lettered;
-            roomy = roomy;
             residues_are = w.residues_are;
             brackets_are = w.brackets_are;
           },
@@ -209,6 +187,6 @@ module _ (line : List ℕ) (some_byte : length line ≡ 0 → ⊥) (short : leng
 pub verdict_refused : (line : List ℕ) {number place : ℕ} → outcome line ≡ refused number place → refuses number place ≡ says_outcome (outcome line)
 verdict_refused line e = ap says_outcome (sym e)
 
-pub verdict_accepted : (line : List ℕ) {letters sections heads parts : List ℕ} {masses scores : List ℤ} {residues brackets : ℕ} {l : Line ℕ}
-    → LineNoted line letters sections heads parts masses scores residues brackets l → good tt ≡ says_outcome (outcome line)
+pub verdict_accepted : (line : List ℕ) {sheet : Sheet} {residues brackets : ℕ} {l : Line ℕ}
+    → LineNoted line sheet residues brackets l → good tt ≡ says_outcome (outcome line)
 verdict_accepted line {l = l} w = ap says_outcome (sym (taken_back line l w.taken))

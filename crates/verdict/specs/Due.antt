@@ -28,8 +28,6 @@ pub record WalkedLine (line heads parts : List ℕ) (brackets least : ℕ) : Typ
   pub masses : List ℤ
   pub scores : List ℤ
   pub noted : Noted line held.brackets parts_many heads parts masses scores
-  pub heads_room_is : heads_room ≤ length heads
-  pub parts_room_is : parts_room ≤ length parts
 
 -- the code of the first refusal due of 5 to 12 and 19
 abbrev pub first_code : Line ℕ → ℕ

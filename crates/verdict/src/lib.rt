@@ -90,10 +90,7 @@ fn by_code(c: usize, residues: usize, brackets: usize, floaters: usize) -> Judge
 }
 
 // The refusal of a line; or that it is accepted, and what it holds in the tables. These have room for what is noted of any line, and may hold anything before.
-pub fn judge(
-    line: &[u8],
-    sheet: &mut Sheet,
-) -> Judged
+pub fn judge(line: &[u8], sheet: &mut Sheet) -> Judged
     ensures { JudgedSays line.now result sheet.new }
 {
     let n = line.len();
@@ -128,10 +125,7 @@ pub fn verdict_on(line: &[u8]) -> Read
     ensures { VerdictSays line.now result }
 {
     let mut sheet = Sheet::new();
-    let judged = judge(
-        line,
-        &mut sheet,
-    );
+    let judged = judge(line, &mut sheet);
     match judged {
         Judged::Refused { number, place } => Read::Refused { number, place },
         Judged::Holds {

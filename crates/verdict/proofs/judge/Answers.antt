@@ -1,6 +1,6 @@
 -- `judge` meets its contract: 1, 2, then what the walk says: 3 or 4 where it is stuck, else the first refusal due, or none. Assumes nothing.
 use Rattle.verdict.proofs.Trying.{is_empty, is_long}
-use Rattle.verdict.proofs.Judging.{still_roomy, stuck_says, walked_line, line_says}
+use Rattle.verdict.proofs.Judging.{stuck_says, walked_line, line_says}
 use Rattle.verdict.proofs.judge.Goals as goal
 
 pub returns-then-n-eq0 : goal.returns-then-n-eq0
@@ -11,14 +11,12 @@ returns-then-n-gt-LINE c = is_long _ c.if-n-eq0.false c.if-n-gt-LINE.true
 
 pub first_due-found-requires : goal.first_due-found-requires
 first_due-found-requires c =
-    let roomy = still_roomy c.requires c.letters-1.given c.sections-1.given c.heads-1.given c.parts-1.given c.masses-1.given c.scores-1.given in
-    walked_line _ c.if-n-eq0.false c.if-n-gt-LINE.false _ _ _ _ _ _ (rw c.in-Holds.is at c.walk-walked.ensures) roomy
+    walked_line _ c.if-n-eq0.false c.if-n-gt-LINE.false _ (rw c.in-Holds.is at c.walk-walked.ensures)
 
 pub returns-in-Stuck : goal.returns-in-Stuck
 returns-in-Stuck c =
-    stuck_says _ c.if-n-eq0.false c.if-n-gt-LINE.false _ _ _ _ _ _ _ _ (rw c.in-Stuck.is at c.walk-walked.ensures) c.not_read.ensures
+    stuck_says _ c.if-n-eq0.false c.if-n-gt-LINE.false _ _ _ (rw c.in-Stuck.is at c.walk-walked.ensures) c.not_read.ensures
 
 pub returns-in-Holds : goal.returns-in-Holds
 returns-in-Holds c =
-    let roomy = still_roomy c.requires c.letters-1.given c.sections-1.given c.heads-1.given c.parts-1.given c.masses-1.given c.scores-1.given in
-    line_says _ c.if-n-eq0.false c.if-n-gt-LINE.false _ _ _ _ _ _ (rw c.in-Holds.is at c.walk-walked.ensures) roomy _ _ _ c.first_due-found.ensures c.by_code.ensures
+    line_says _ c.if-n-eq0.false c.if-n-gt-LINE.false _ (rw c.in-Holds.is at c.walk-walked.ensures) _ _ _ c.first_due-found.ensures c.by_code.ensures

@@ -79,8 +79,6 @@ pub frame_fits : {line heads parts : List ℕ} {masses scores : List ℤ} {k t n
 frame_fits e s =
     let f = s.1 in
     record {
-      heads_room_is = f.heads_room_is;
-      scores_room = f.scores_room;
       few_brackets_lem = f.few_brackets_lem;
       few_parts_lem = omega (arith, parts_many f.noted, f.noted.within.few_parts_lem);
       bytes_long = f.bytes_long;
@@ -119,7 +117,7 @@ module _ {line heads parts : List ℕ} {masses scores : List ℤ} {k : ℕ} {byt
       fits : RowFits line parts masses (m + j) k j seen.texts bytes numbers
       fits =
           let all_parts : n ≡ length b.parts = w.many ∙ parts_many f.noted in
-          row_fits next_noted f.parts_room_is f.masses_room_is (omega (arith, w.base_is, f.noted.fields.base_is, f.noted.few_rows))
+          row_fits next_noted (omega (arith, w.base_is, f.noted.fields.base_is, f.noted.few_rows))
           (omega (arith, upto_room (w.upto b f) next, f.texts_room)) f.few_brackets_lem (omega (arith, f.noted.within.few_parts_lem)) f.bytes_long f.numbers_long
 
       further : {r : Seen} → PartSeen line parts masses (m + j) k j bytes numbers seen r

@@ -20,7 +20,8 @@ use Rattle.layout_laws.specs.At.{At, at_part}
 use Rattle.layout_laws.proofs.Same.{begins_with}
 use Rattle.layout_laws.proofs.LayoutLaws.{padded_length, bracket_row_length, number_row_length, rows_length, number_rows_length, bytes_length, numbers_length}
 use Rattle.layout_laws.proofs.Laws.{same_numbers_law}
-use Rattle.sheet.specs.Rows.{LineNoted}
+use Rattle.sheet.specs.declared.Sheet.{Sheet}
+use Rattle.sheet.specs.Kept.{LineNoted}
 use Rattle.sheet.proofs.FieldLaws.{Among, among}
 use Rattle.store.specs.BracketPut.{BracketNoted}
 use Rattle.store.specs.Filled.{FrontFits}
@@ -127,31 +128,29 @@ module _ (l : Line ℕ) (w : Within l) (bytes : List ℕ) (numbers : List ℤ) w
       v.back (front_at bytes_size (bytes_of l) bytes (b.0 p.0), front_at numbers_size (numbers_of l) numbers (n.0 p.1)))
 
 -- ---- the loop, over the brackets of the line that is noted
-pub record HoldingBrackets (line letters sections heads parts : List ℕ) (masses scores : List ℤ) (residues brackets : ℕ) (bytes : List ℕ) (numbers : List ℤ) (first : Seen) (k : ℕ) (seen : Seen) : Type 0 where
+pub record HoldingBrackets (line : List ℕ) (sheet : Sheet) (residues brackets : ℕ) (bytes : List ℕ) (numbers : List ℤ) (first : Seen) (k : ℕ) (seen : Seen) : Type 0 where
   pub holds_line : Line ℕ
-  pub noted : LineNoted line letters sections heads parts masses scores residues brackets holds_line
+  pub noted : LineNoted line sheet residues brackets holds_line
   pub bytes_long : bytes_size ≤ length bytes
   pub numbers_long : numbers_size ≤ length numbers
   pub few : k ≤ brackets
   pub upto : HeldUpto (BracketsHeld bytes numbers) bracket_texts 0 holds_line.brackets first.so k seen.texts seen.so
 
-pub front_fits : {line letters sections heads parts : List ℕ} {masses scores : List ℤ} {residues brackets : ℕ} {bytes : List ℕ} {l : Line ℕ}
-    → LineNoted line letters sections heads parts masses scores residues brackets l → bytes_size ≤ length bytes → FrontFits letters sections residues brackets bytes
+pub front_fits : {line : List ℕ} {sheet : Sheet} {residues brackets : ℕ} {bytes : List ℕ} {l : Line ℕ}
+    → LineNoted line sheet residues brackets l → bytes_size ≤ length bytes → FrontFits sheet.letters sheet.sections residues brackets bytes
 front_fits w h =
     record {
       few_residues = omega (arith, residues_many w, (within w).few_residues);
       few_brackets_lem = omega (arith, brackets_many w, (within w).few_brackets_lem);
-      letters_room = w.roomy.letters_room;
-      sections_room = w.roomy.sections_room;
       bytes_long = h;
     }
 
-module _ {line letters sections heads parts : List ℕ} {masses scores : List ℤ} {residues brackets : ℕ} {bytes : List ℕ} {numbers : List ℤ} where
-  pub bracketing_start : (so : Bool) {l : Line ℕ} → LineNoted line letters sections heads parts masses scores residues brackets l → bytes_size ≤ length bytes → numbers_size ≤ length numbers
-      → HoldingBrackets line letters sections heads parts masses scores residues brackets bytes numbers (record { so = so; texts = 0 }) 0 (record { so = so; texts = 0 })
+module _ {line : List ℕ} {sheet : Sheet} {residues brackets : ℕ} {bytes : List ℕ} {numbers : List ℤ} where
+  pub bracketing_start : (so : Bool) {l : Line ℕ} → LineNoted line sheet residues brackets l → bytes_size ≤ length bytes → numbers_size ≤ length numbers
+      → HoldingBrackets line sheet residues brackets bytes numbers (record { so = so; texts = 0 }) 0 (record { so = so; texts = 0 })
   bracketing_start so {l} w b n = record { holds_line = l; noted = w; bytes_long = b; numbers_long = n; few = omega arith; upto = upto_start }
 
-  module _ {first : Seen} {k : ℕ} {seen : Seen} (v : HoldingBrackets line letters sections heads parts masses scores residues brackets bytes numbers first k seen) where
+  module _ {first : Seen} {k : ℕ} {seen : Seen} (v : HoldingBrackets line sheet residues brackets bytes numbers first k seen) where
     abbrev l : Line ℕ
     l = v.holds_line
 
@@ -159,27 +158,23 @@ module _ {line letters sections heads parts : List ℕ} {masses scores : List �
       next : Among l.brackets k
       next = among l.brackets k (omega (arith, brackets_many v.noted))
 
-      next_there : BracketThere line heads parts masses scores k seen.texts next.this bytes numbers
+      next_there : BracketThere line sheet.heads sheet.parts sheet.masses sheet.scores k seen.texts next.this bytes numbers
       next_there =
           let w = v.noted in
           record {
             residues = length l.residues;
-            noted = subst (λ i. BracketNoted line heads parts masses scores (length l.residues) i next.this) (sym next.place) (bracket_noted w next.before next.this next.behind next.is);
-            heads_room_is = w.roomy.heads_room_is;
-            parts_room_is = w.roomy.parts_room_is;
-            masses_room_is = w.roomy.masses_room_is;
-            scores_room = w.roomy.scores_room;
+            noted = subst (λ i. BracketNoted line sheet.heads sheet.parts sheet.masses sheet.scores (length l.residues) i next.this) (sym next.place) (bracket_noted w next.before next.this next.behind next.is);
             few_brackets_lem = omega (arith, brackets_many w, (within w).few_brackets_lem);
             texts_room = omega (arith, upto_room v.upto next, (within w).texts);
             bytes_long = v.bytes_long;
             numbers_long = v.numbers_long;
           }
 
-      pub bracketing_fits : (b : Bracket ℕ) × BracketThere line heads parts masses scores k seen.texts b bytes numbers
+      pub bracketing_fits : (b : Bracket ℕ) × BracketThere line sheet.heads sheet.parts sheet.masses sheet.scores k seen.texts b bytes numbers
       bracketing_fits = (next.this, next_there)
 
-      pub bracketing_next : {r : Seen} → ((b : Bracket ℕ) → BracketThere line heads parts masses scores k seen.texts b bytes numbers → BracketSeen k b bytes numbers seen r)
-          → HoldingBrackets line letters sections heads parts masses scores residues brackets bytes numbers first (k + 1) r
+      pub bracketing_next : {r : Seen} → ((b : Bracket ℕ) → BracketThere line sheet.heads sheet.parts sheet.masses sheet.scores k seen.texts b bytes numbers → BracketSeen k b bytes numbers seen r)
+          → HoldingBrackets line sheet residues brackets bytes numbers first (k + 1) r
       bracketing_next {r} told =
           let q = told next.this next_there in
           record {
@@ -205,7 +200,7 @@ module _ {line letters sections heads parts : List ℕ} {masses scores : List �
           let w = v.noted in
           (omega (arith, brackets_many w, (within w).few_brackets_lem), omega (arith, texts_are, (within w).texts), v.bytes_long, v.numbers_long)
 
-      pub line_told : {r : Bool} → Tells first.so (FrontHeld (counts_row residues brackets) (take residues letters) (take residues sections) bytes)
+      pub line_told : {r : Bool} → Tells first.so (FrontHeld (counts_row residues brackets) (take residues sheet.letters) (take residues sheet.sections) bytes)
           → Tells r (RestHeld brackets seen.texts bytes numbers) → (seen.so && r) ≡ reads_to (outcome line) (take bytes_size bytes) (take numbers_size numbers)
       line_told front rest =
           let w = v.noted in

@@ -34,8 +34,6 @@ pub record PartSeen (line parts : List ℕ) (masses : List ℤ) (m k j : ℕ) (b
 
 -- ---- what bracket k has beside its n parts
 pub record FrameFits (heads : List ℕ) (scores : List ℤ) (k n : ℕ) (bytes : List ℕ) (numbers : List ℤ) : Type 0 where
-  pub heads_room_is : heads_room ≤ length heads
-  pub scores_room : bracket_limit ≤ length scores
   pub few_brackets_lem : k < bracket_limit
   pub few_parts_lem : n ≤ part_limit
   pub bytes_long : bytes_size ≤ length bytes
@@ -52,10 +50,6 @@ pub record FrameHeld (heads : List ℕ) (scores : List ℤ) (k n : ℕ) (bytes :
 pub record BracketThere (line heads parts : List ℕ) (masses scores : List ℤ) (k t : ℕ) (b : Bracket ℕ) (bytes : List ℕ) (numbers : List ℤ) : Type 0 where
   pub residues : ℕ
   pub noted : BracketNoted line heads parts masses scores residues k b
-  pub heads_room_is : heads_room ≤ length heads
-  pub parts_room_is : parts_room ≤ length parts
-  pub masses_room_is : masses_room ≤ length masses
-  pub scores_room : bracket_limit ≤ length scores
   pub few_brackets_lem : k < bracket_limit
   pub texts_room : t + length (bracket_texts b) ≤ line_limit
   pub bytes_long : bytes_size ≤ length bytes

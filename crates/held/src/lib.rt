@@ -11,7 +11,8 @@ ghost use Rattle.scope.specs.Layout.{bytes_size, numbers_size, row_at, part_at, 
 ghost use Rattle.scope.specs.Answers.{reads_to};
 ghost use Rattle.held.specs.Tells.{Tells};
 ghost use Rattle.layout_laws.specs.At.{At};
-ghost use Rattle.sheet.specs.Rows.{heads_room, LineNoted};
+ghost use Rattle.sheet.specs.Rows.{masses_room};
+ghost use Rattle.sheet.specs.Kept.{LineNoted};
 ghost use Rattle.store.specs.PartPut.{Copies, RowFits, ComposedFits, NotedFits};
 ghost use Rattle.store.specs.BracketPut.{head_from, PlacesFit};
 ghost use Rattle.store.specs.Filled.{FrontFits};
@@ -19,6 +20,7 @@ ghost use Rattle.held.specs.Held.{FrontHeld, PartSeen, FrameFits, FrameHeld, Bra
 
 use glycans::Cutting;
 use scope::tables::Tables;
+use sheet::Sheet;
 
 // What was looked at so far: whether all of it is held, and how many bytes of texts it has.
 #[derive(Drop)]
@@ -80,12 +82,20 @@ fn zero_numbers(numbers: &[i64], at: usize, n: usize) -> bool
     so
 }
 
-// Is this the mass or the score at a place of the sheet?
-fn is_number(numbers: &[i64], at: usize, x: i64) -> bool
-    requires { at < length numbers.now }
-    ensures { Tells result (x ≡ get_or numbers.now at (pos 0)) }
+// Is this the mass of row m?
+fn is_noted(sheet: &Sheet, m: usize, x: i64) -> bool
+    requires { m < masses_room }
+    ensures { Tells result (x ≡ get_or sheet.now.masses m (pos 0)) }
 {
-    x == numbers[at]
+    x == sheet.mass_of(m)
+}
+
+// Is this the score of bracket k?
+fn is_scored(sheet: &Sheet, k: usize, x: i64) -> bool
+    requires { k < bracket_limit }
+    ensures { Tells result (x ≡ get_or sheet.now.scores k (pos 0)) }
+{
+    x == sheet.points_of(k)
 }
 
 // Is this that mass, in millionths?
@@ -107,19 +117,14 @@ fn padded_held(from: &[u8], n: usize, bytes: &[u8], at: usize) -> bool
 }
 
 // The numbers of residues and brackets, the letters and the sections?
-fn front_held(
-    sheet: &Sheet,
-    residues: usize,
-    brackets: usize,
-    bytes: &[u8],
-) -> bool
+fn front_held(sheet: &Sheet, residues: usize, brackets: usize, bytes: &[u8]) -> bool
     requires { FrontFits sheet.now.letters sheet.now.sections residues brackets bytes.now }
     ensures { Tells result (FrontHeld (counts_row residues brackets) (take residues sheet.now.letters) (take residues sheet.now.sections) bytes.now) }
 {
     (areas::residues(bytes) == residues)
         & (areas::brackets(bytes) == brackets)
-        & padded_held(letters, residues, bytes, Tables::LETTERS)
-        & padded_held(sections, residues, bytes, Tables::SECTIONS)
+        & padded_held(&sheet.letters, residues, bytes, Tables::LETTERS)
+        & padded_held(&sheet.sections, residues, bytes, Tables::SECTIONS)
 }
 
 // ---- a part
@@ -234,7 +239,7 @@ fn noted_held(
     let so = fields_held(value, key, decimals, n, l, offset, k, j, bytes)
         & same_bytes(line, text, n, bytes, Tables::TEXTS + t)
         & same_bytes(line, label, l, bytes, Tables::TEXTS + t + n)
-        & is_number(masses, m, areas::mass(numbers, k, j));
+        & is_noted(sheet, m, areas::mass(numbers, k, j));
     Seen {
         so: seen.so & so,
         texts: t + n + l,
@@ -245,7 +250,7 @@ fn noted_held(
 
 // The head of bracket k?
 fn head_held(sheet: &Sheet, k: usize, bytes: &[u8]) -> bool
-    requires { (heads_room ≤ length sheet.now.heads) × (k < bracket_limit) × (bytes_size ≤ length bytes.now) }
+    requires { (k < bracket_limit) × (bytes_size ≤ length bytes.now) }
     ensures { Tells result (At bytes.now (row_at k) (head_from sheet.now.heads k)) }
 {
     (areas::kind(bytes, k) == sheet.kind_of(k))
@@ -257,22 +262,16 @@ fn head_held(sheet: &Sheet, k: usize, bytes: &[u8]) -> bool
 }
 
 // What bracket k has beside its n parts: its head, zeros for the parts that it lacks, its score?
-fn frame_held(
-    sheet: &Sheet,
-    k: usize,
-    n: usize,
-    bytes: &[u8],
-    numbers: &[i64],
-) -> bool
+fn frame_held(sheet: &Sheet, k: usize, n: usize, bytes: &[u8], numbers: &[i64]) -> bool
     requires { FrameFits sheet.now.heads sheet.now.scores k n bytes.now numbers.now }
     ensures { Tells result (FrameHeld sheet.now.heads sheet.now.scores k n bytes.now numbers.now) }
 {
     let lacking = Tables::PARTS - n;
     let behind = Tables::ROWS + k * Tables::ROW + Tables::HEAD + n * Tables::PART;
-    head_held(heads, k, bytes)
+    head_held(sheet, k, bytes)
         & zero_bytes(bytes, behind, lacking * Tables::PART)
         & zero_numbers(numbers, k * Tables::MASSES + n, lacking)
-        & is_number(scores, k, areas::score_number(numbers, k))
+        & is_scored(sheet, k, areas::score_number(numbers, k))
 }
 
 // The sites of bracket k: those of the n places that stand in the line from `at` on?
@@ -319,16 +318,13 @@ fn bracket_held(
     let n = sheet.parts_of(k);
     let at = sheet.places_of(k);
     let many = sheet.many_of(k);
-    let so = frame_held(heads, scores, k, n, bytes, numbers)
-        & places_held(line, at, many, k, bytes);
+    let so = frame_held(sheet, k, n, bytes, numbers) & places_held(line, at, many, k, bytes);
     let mut upto = Seen {
         so: seen.so & so,
         texts: seen.texts,
     };
-    let mut j: usize = 0;
-    while j < n {
+    for j in 0..n {
         upto = part_held(line, sheet, m + j, k, j, bytes, numbers, upto);
-        j += 1;
     }
     upto
 }
@@ -359,13 +355,11 @@ pub fn holds(
     ensures { result ≡ reads_to (outcome line.now) (take bytes_size bytes.now) (take numbers_size numbers.now) }
 {
     let mut seen = Seen {
-        so: front_held(letters, sections, residues, brackets, bytes),
+        so: front_held(sheet, residues, brackets, bytes),
         texts: 0,
     };
-    let mut k: usize = 0;
-    while k < brackets {
+    for k in 0..brackets {
         seen = bracket_held(line, sheet, k, bytes, numbers, seen);
-        k += 1;
     }
     seen.so & rest_held(brackets, seen.texts, bytes, numbers)
 }

@@ -1,7 +1,7 @@
 // The tables in which the walk notes a line: their sizes, a reader for each field and a writer for each row. No other crate knows where a field lies.
 #![tactic(auto)]
 
-ghost use Rattle.std.specs.Prelude.{◌≡◌, [], ◌∷◌, ◌+◌, ◌*◌, ◌<◌, eqb, length, get_or, set};
+ghost use Rattle.std.specs.Prelude.{◌≡◌, [], ◌∷◌, ◌+◌, ◌*◌, ◌<◌, eqb, pos, length, get_or, set};
 ghost use Rattle.std.proofs.lemmas.List.Edits.{sets};
 ghost use Rattle.scope.specs.Bytes.{wide_limit};
 ghost use Rattle.scope.specs.Limits.{bracket_limit};
@@ -166,7 +166,23 @@ impl Sheet {
         number(&self.heads, k * Sheet::HEAD + MANY)
     }
 
+    // Its score, in millionths.
+    pub fn points_of(&self, k: usize) -> i64
+        requires { k < bracket_limit }
+        ensures { result ≡ get_or self.now.scores k (pos 0) }
+    {
+        self.scores[k]
+    }
+
     // ---- part m
+
+    // Its mass, in millionths.
+    pub fn mass_of(&self, m: usize) -> i64
+        requires { m < masses_room }
+        ensures { result ≡ get_or self.now.masses m (pos 0) }
+    {
+        self.masses[m]
+    }
 
     // The code of its value.
     pub fn value_of(&self, m: usize) -> usize

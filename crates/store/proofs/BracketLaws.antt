@@ -24,7 +24,7 @@ use Rattle.store.proofs.Passed.{passed, passed_next}
 
 module _ {line heads parts : List ℕ} {masses scores : List ℤ} {k t : ℕ} {bytes : List ℕ} {numbers : List ℤ} where
   pub some_head : SomeBracketFits line heads parts masses scores k t bytes numbers → HeadGoesIn heads k bytes
-  some_head s = let f = s.fits in head_fits f.noted f.few_residues f.heads_room_is f.few_brackets_lem f.bytes_long
+  some_head s = let f = s.fits in head_fits f.noted f.few_residues f.few_brackets_lem f.bytes_long
 
   module _ {m n : ℕ} {bytes₁ : List ℕ} (em : m ≡ base_field heads k) (en : n ≡ parts_field heads k) (e : bytes₁ ≡ sets bytes (row_at k) (head_from heads k)) where
     parts_fit : {b : Bracket ℕ} {a : Pieces} → BracketGoesIn line heads parts masses scores k t b a bytes numbers
@@ -35,8 +35,6 @@ module _ {line heads parts : List ℕ} {masses scores : List ℤ} {k t : ℕ} {b
         record {
           many = en ∙ parts_many q;
           noted = subst (λ i. PartsNoted line parts masses i b.parts) (sym base_is) q.parts_are;
-          parts_room_is = f.parts_room_is;
-          masses_room_is = f.masses_room_is;
           few_rows = omega (arith, q.few_rows, en, parts_many q);
           few_brackets_lem = f.few_brackets_lem;
           few_parts_lem = omega (arith, en, parts_many q, q.within.few_parts_lem);
@@ -102,10 +100,6 @@ module _ {line heads parts : List ℕ} {masses scores : List ℤ} {n : ℕ} {ks 
           residues = f.residues;
           few_residues = f.few_residues;
           noted = subst (λ i. BracketNoted line heads parts masses scores f.residues i next.this) (sym p) (f.noted next.before next.this next.behind next.is);
-          heads_room_is = f.heads_room_is;
-          parts_room_is = f.parts_room_is;
-          masses_room_is = f.masses_room_is;
-          scores_room = f.scores_room;
           few_brackets_lem = omega (arith, f.few_brackets_lem);
           texts_room = omega (arith, room, f.texts_room);
           bytes_long = omega (arith, f.bytes_long);

@@ -6,6 +6,7 @@ use native.Mathlib.Omega.{arith}
 use lib.IntN.{ℤ}
 use lib.ListN.{length, take, drop, replicate, length-append, length-map, take-append-drop, replicate-append-replicate}
 use lib.Seq.{sets, length-sets}
+use Rattle.sheet.specs.declared.Sheet.{Sheet}
 use Rattle.scope.specs.Limits.{line_limit, residue_limit, bracket_limit}
 use Rattle.scope.specs.Line.{Bracket, Line}
 use Rattle.scope.specs.Lists.{flat, padded}
@@ -113,48 +114,42 @@ module _ (l : Line ℕ) (old : List ℕ) (old_numbers : List ℤ) where
       regroup n a b c d r = simp append_assoc
 
 -- ---- what store does
-module _ {line letters sections heads parts : List ℕ} {masses scores : List ℤ} {residues brackets : ℕ} {bytes : List ℕ} {numbers : List ℤ}
-    (f : Fills line letters sections heads parts masses scores residues brackets bytes numbers) where
-  pub front_fits : FrontFits letters sections residues brackets bytes
+module _ {line : List ℕ} {sheet : Sheet} {residues brackets : ℕ} {bytes : List ℕ} {numbers : List ℤ}
+    (f : Fills line sheet residues brackets bytes numbers) where
+  pub front_fits : FrontFits sheet.letters sheet.sections residues brackets bytes
   front_fits =
       let w = f.line_noted in
       record {
         few_residues = omega (arith, residues_many w, (within w).few_residues);
         few_brackets_lem = omega (arith, brackets_many w, (within w).few_brackets_lem);
-        letters_room = w.roomy.letters_room;
-        sections_room = w.roomy.sections_room;
         bytes_long = f.clean.bytes_room;
       }
 
-  module _ {bytes₁ : List ℕ} (e : bytes₁ ≡ front_put letters sections residues brackets bytes) where
-    fit : BracketsFit line heads parts masses scores brackets f.holds_line.brackets (begun f.holds_line bytes numbers) bytes₁ numbers
+  module _ {bytes₁ : List ℕ} (e : bytes₁ ≡ front_put sheet.letters sheet.sections residues brackets bytes) where
+    fit : BracketsFit line sheet.heads sheet.parts sheet.masses sheet.scores brackets f.holds_line.brackets (begun f.holds_line bytes numbers) bytes₁ numbers
     fit =
         let l = f.holds_line in
         let w = f.line_noted in
         let few = (within w).few_residues in
         let counted = ap₂ (λ i j. counts_row i j) (residues_many w) (brackets_many w) in
-        let put = e ∙ ap₂ (λ i j. sets (sets (sets bytes residues_at i) letters_at j) sections_at (take residues sections)) counted (letters_are w) ∙ ap (sets _ sections_at) (sections_are w) in
+        let put = e ∙ ap₂ (λ i j. sets (sets (sets bytes residues_at i) letters_at j) sections_at (take residues sheet.sections)) counted (letters_are w) ∙ ap (sets _ sections_at) (sections_are w) in
         record {
           many = brackets_many w;
           residues = length l.residues;
           few_residues = few;
           noted = bracket_noted w;
-          heads_room_is = w.roomy.heads_room_is;
-          parts_room_is = w.roomy.parts_room_is;
-          masses_room_is = w.roomy.masses_room_is;
-          scores_room = w.roomy.scores_room;
           few_brackets_lem = omega (arith, brackets_many w, (within w).few_brackets_lem);
           texts_room = (within w).texts;
-          bytes_long = omega (arith, f.clean.bytes_room, ap length e, length-sets (sets (sets bytes residues_at (counts_row residues brackets)) letters_at (take residues letters)) sections_at (take residues sections), length-sets (sets bytes residues_at (counts_row residues brackets)) letters_at (take residues letters), length-sets bytes residues_at (counts_row residues brackets));
+          bytes_long = omega (arith, f.clean.bytes_room, ap length e, length-sets (sets (sets bytes residues_at (counts_row residues brackets)) letters_at (take residues sheet.letters)) sections_at (take residues sheet.sections), length-sets (sets bytes residues_at (counts_row residues brackets)) letters_at (take residues sheet.letters), length-sets bytes residues_at (counts_row residues brackets));
           numbers_long = f.clean.numbers_room;
           areas_are = begins l bytes numbers (within w) f.clean put;
         }
 
-    pub brackets_fit : SomeBracketsFit line heads parts masses scores brackets bytes₁ numbers
+    pub brackets_fit : SomeBracketsFit line sheet.heads sheet.parts sheet.masses sheet.scores brackets bytes₁ numbers
     brackets_fit = record { these = f.holds_line.brackets; pieces = begun f.holds_line bytes numbers; fit = fit }
 
     pub filled : {bytes₂ : List ℕ} {numbers₂ : List ℤ}
-        → ((ks : List (Bracket ℕ)) (a : Pieces) → BracketsFit line heads parts masses scores brackets ks a bytes₁ numbers → BracketsPut ks a bytes₂ numbers₂)
+        → ((ks : List (Bracket ℕ)) (a : Pieces) → BracketsFit line sheet.heads sheet.parts sheet.masses sheet.scores brackets ks a bytes₁ numbers → BracketsPut ks a bytes₂ numbers₂)
         → (l : Line ℕ) → outcome line ≡ accepted l → FilledAll bytes numbers bytes₂ numbers₂ l
     filled {bytes₂} {numbers₂} put l q =
         let h = f.holds_line in

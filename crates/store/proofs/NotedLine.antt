@@ -19,7 +19,9 @@ use Rattle.basics.specs.Lists.{flat_none, not_due}
 use Rattle.reading_laws.proofs.Taken.{taken_back}
 use Rattle.accepted_laws.specs.Within.{PartWithin, BracketWithin, Within}
 use Rattle.accepted_laws.specs.Laws.{accepted_within, read_within}
-use Rattle.sheet.specs.Rows.{part_fields, head_fields, mass_noted, points_noted, part_note, AllStand, heads_from, parts_of, few_brackets, PlacesStand, LineNoted}
+use Rattle.sheet.specs.declared.Sheet.{Sheet}
+use Rattle.sheet.specs.Rows.{part_fields, head_fields, mass_noted, points_noted, part_note, AllStand, heads_from, parts_of, few_brackets, PlacesStand}
+use Rattle.sheet.specs.Kept.{LineNoted}
 use Rattle.sheet.proofs.FieldLaws.{number_at, head_is, part_is, part_among, stands_at_lem, parts_few}
 use Rattle.store.specs.PartPut.{PartNoted}
 use Rattle.store.specs.BracketPut.{BracketNoted}
@@ -48,8 +50,8 @@ unmapped f (a ∷ l) (x ∷ xs) y ys e =
       this_is = u.this_is;
     }
 
-module _ {line letters sections heads parts : List ℕ} {masses scores : List ℤ} {residues brackets : ℕ} {l : Line ℕ}
-    (w : LineNoted line letters sections heads parts masses scores residues brackets l) where
+module _ {line : List ℕ} {sheet : Sheet} {residues brackets : ℕ} {l : Line ℕ}
+    (w : LineNoted line sheet residues brackets l) where
   abbrev read : Line ℕ
   read = w.taken.read
 
@@ -85,13 +87,13 @@ module _ {line letters sections heads parts : List ℕ} {masses scores : List �
   pub brackets_many : brackets ≡ length l.brackets
   brackets_many = w.brackets_are ∙ sym (length-map read.brackets kept_bracket) ∙ ap length kept_brackets
 
-  pub letters_are : take residues letters ≡ map (λ r. r.letter) l.residues
+  pub letters_are : take residues sheet.letters ≡ map (λ r. r.letter) l.residues
   letters_are =
-      ap (λ i. take i letters) w.residues_are ∙ w.lettered.letters_are within_read.few_residues ∙ ap (map (λ r. r.letter)) same_residues
+      ap (λ i. take i sheet.letters) w.residues_are ∙ w.lettered.letters_are within_read.few_residues ∙ ap (map (λ r. r.letter)) same_residues
 
-  pub sections_are : take residues sections ≡ map (λ r. section_code r.section) l.residues
+  pub sections_are : take residues sheet.sections ≡ map (λ r. section_code r.section) l.residues
   sections_are =
-      ap (λ i. take i sections) w.residues_are ∙ w.lettered.sections_are within_read.few_residues ∙ ap (map (λ r. section_code r.section)) same_residues
+      ap (λ i. take i sheet.sections) w.residues_are ∙ w.lettered.sections_are within_read.few_residues ∙ ap (map (λ r. section_code r.section)) same_residues
 
   all_few : few_brackets read.brackets ≡ read.brackets
   all_few = take_all bracket_limit read.brackets within_read.few_brackets_lem
@@ -128,7 +130,7 @@ module _ {line letters sections heads parts : List ℕ} {masses scores : List �
       place : length (parts_of u.before) + length us ≡ length (parts_of u.before ++ v.before)
       place = omega (arith, v.place, length-append (parts_of u.before) v.before)
 
-      part_noted : PartNoted line parts masses (length (parts_of u.before) + length us) p
+      part_noted : PartNoted line sheet.parts sheet.masses (length (parts_of u.before) + length us) p
       part_noted =
           let n = w.noted.parts_are in
           let i : ℕ = length (parts_of u.before) + length us in
@@ -136,8 +138,8 @@ module _ {line letters sections heads parts : List ℕ} {masses scores : List �
           let behind : List (Part ℕ) = v.behind ++ parts_of u.behind in
           record {
             read = v.this;
-            fields = part_is parts (w.parts_many * part_fields) i before v.this behind (n.rows ∙ ap (flat part_note) among) place;
-            mass_is = number_at (pos 0) (λ r. mass_noted r.value) w.parts_many masses before v.this behind i (n.masses_are ∙ ap (map (λ r. mass_noted r.value)) among)
+            fields = part_is sheet.parts (w.parts_many * part_fields) i before v.this behind (n.rows ∙ ap (flat part_note) among) place;
+            mass_is = number_at (pos 0) (λ r. mass_noted r.value) w.parts_many sheet.masses before v.this behind i (n.masses_are ∙ ap (map (λ r. mass_noted r.value)) among)
                 (place ∙ sym (length-map before (λ r. mass_noted r.value)));
             stands = stands_at_lem line before v.this behind (subst (AllStand line) among w.noted.stand);
             within = (each_back PartWithin v.before (v.this ∷ v.behind) (subst (Each PartWithin) v.is this_within.parts)).0;
@@ -145,7 +147,7 @@ module _ {line letters sections heads parts : List ℕ} {masses scores : List �
             keeps = v.this_is;
           }
 
-    pub bracket_noted : BracketNoted line heads parts masses scores (length l.residues) (length xs) b
+    pub bracket_noted : BracketNoted line sheet.heads sheet.parts sheet.masses sheet.scores (length l.residues) (length xs) b
     bracket_noted =
         let many = ap (λ z. length z.parts) u.this_is ∙ length-map u.this.parts kept_part in
         record {
@@ -153,8 +155,8 @@ module _ {line letters sections heads parts : List ℕ} {masses scores : List �
           read = u.this;
           keeps = u.this_is;
           placed = subst (λ z. PlacesStand line z.places) (sym u.this_is) this_placed;
-          fields = head_is heads (length (few_brackets read.brackets) * head_fields) (length xs) u.before u.this u.behind (w.noted.rows ∙ ap (heads_from 0) these) u.place;
-          score_is = number_at (pos 0) (λ k. points_noted (score_of k.parts)) (length (few_brackets read.brackets)) scores u.before u.this u.behind (length xs) (w.noted.scores_are ∙ ap (map (λ k. points_noted (score_of k.parts))) these)
+          fields = head_is sheet.heads (length (few_brackets read.brackets) * head_fields) (length xs) u.before u.this u.behind (w.noted.rows ∙ ap (heads_from 0) these) u.place;
+          score_is = number_at (pos 0) (λ k. points_noted (score_of k.parts)) (length (few_brackets read.brackets)) sheet.scores u.before u.this u.behind (length xs) (w.noted.scores_are ∙ ap (map (λ k. points_noted (score_of k.parts))) these)
               (u.place ∙ sym (length-map u.before (λ k. points_noted (score_of k.parts))));
           parts_are = part_noted;
           few_rows = omega (arith, parts_few u.before, many, this_within.few_parts_lem, within_read.few_brackets_lem, ap length u.is, length-append u.before (u.this ∷ u.behind));

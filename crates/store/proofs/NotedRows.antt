@@ -216,13 +216,11 @@ module _ {line parts : List ℕ} {masses : List ℤ} {m : ℕ} {p : Part ℕ} (w
       let k : is_key Glycan q ≡ true = and_left _ _ (sym composed_is ∙ e) in
       ap (λ t. none? (cuttings t)) text_noted_lem ∙ (rw k at w.cut)
 
-  pub row_fits : {k j t : ℕ} {bytes : List ℕ} {numbers : List ℤ} → parts_room ≤ length parts → masses_room ≤ length masses → m < masses_room
+  pub row_fits : {k j t : ℕ} {bytes : List ℕ} {numbers : List ℤ} → m < masses_room
       → t + length (packed p) ≤ line_limit → k < bracket_limit → j < part_limit → bytes_size ≤ length bytes → numbers_size ≤ length numbers
       → RowFits line parts masses m k j t bytes numbers
-  row_fits a b c d e f g h =
+  row_fits c d e f g h =
       record {
-        parts_room_is = a;
-        masses_room_is = b;
         few_rows = c;
         value_byte = omega (arith, w.fields.value, few_values q.value);
         key_byte = omega (arith, w.fields.key, few_keys q.key w.within.key);
@@ -290,11 +288,10 @@ module _ {line heads parts : List ℕ} {masses scores : List ℤ} {n k : ℕ} {b
         bytes_long = l;
       }
 
-  pub head_fits : {bytes : List ℕ} → n ≤ residue_limit → heads_room ≤ length heads → k < bracket_limit → bytes_size ≤ length bytes → HeadGoesIn heads k bytes
-  head_fits r h q l =
+  pub head_fits : {bytes : List ℕ} → n ≤ residue_limit → k < bracket_limit → bytes_size ≤ length bytes → HeadGoesIn heads k bytes
+  head_fits r q l =
       let f = w.fields in
       record {
-        heads_room_is = h;
         few_brackets_lem = q;
         kind_byte = omega (arith, f.kind, kind_byte w.read.kind);
         first_few = omega (arith, f.first, ap (λ z. z.first) w.keeps, first_within n b w.within);

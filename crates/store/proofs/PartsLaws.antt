@@ -37,7 +37,7 @@ module _ {line parts : List ℕ} {masses : List ℤ} {m n k t : ℕ} {ps : List 
 
     fits : length bytes ≡ length bytes₀ → length numbers ≡ length numbers₀ → RowFits line parts masses (m + j) k j u bytes numbers
     fits eb en =
-        row_fits noted f.parts_room_is f.masses_room_is (omega (arith, f.few_rows)) (omega (arith, room, f.texts_room)) f.few_brackets_lem
+        row_fits noted (omega (arith, f.few_rows)) (omega (arith, room, f.texts_room)) f.few_brackets_lem
         (omega (arith, f.few_parts_lem)) (omega (arith, f.bytes_long)) (omega (arith, f.numbers_long))
 
     further : {r : ℕ} {bytes' : List ℕ} {numbers' : List ℤ} → RowPut line parts masses (m + j) k j u bytes numbers r bytes' numbers'

@@ -109,7 +109,6 @@ module _ {line parts : List ℕ} {masses : List ℤ} {m k j t : ℕ} {bytes : Li
         fits = h;
         composed_row =
             record {
-              parts_room_is = h.parts_room_is;
               few_rows = h.few_rows;
               text_order = h.text_order;
               text_inside = h.text_inside;

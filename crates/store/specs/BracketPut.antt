@@ -20,7 +20,6 @@ head_from heads k =
     head_row (kind_field heads k) (first_field heads k) (last_field heads k) (count_field heads k) (parts_field heads k) (score_field heads k)
 
 pub record HeadGoesIn (heads : List ℕ) (k : ℕ) (bytes : List ℕ) : Type 0 where
-  pub heads_room_is : heads_room ≤ length heads
   pub few_brackets_lem : k < bracket_limit
   pub kind_byte : kind_field heads k < byte_limit
   pub first_few : first_field heads k < position_limit
@@ -62,10 +61,6 @@ pub record BracketGoesIn (line heads parts : List ℕ) (masses scores : List ℤ
   pub residues : ℕ
   pub few_residues : residues ≤ residue_limit
   pub noted : BracketNoted line heads parts masses scores residues k b
-  pub heads_room_is : heads_room ≤ length heads
-  pub parts_room_is : parts_room ≤ length parts
-  pub masses_room_is : masses_room ≤ length masses
-  pub scores_room : bracket_limit ≤ length scores
   pub few_brackets_lem : k < bracket_limit
   pub texts_room : t + length (bracket_texts b) ≤ line_limit
   pub bytes_long : bytes_size ≤ length bytes
@@ -93,10 +88,6 @@ pub record BracketsFit (line heads parts : List ℕ) (masses scores : List ℤ) 
   pub residues : ℕ
   pub few_residues : residues ≤ residue_limit
   pub noted : BracketsNoted line heads parts masses scores residues ks
-  pub heads_room_is : heads_room ≤ length heads
-  pub parts_room_is : parts_room ≤ length parts
-  pub masses_room_is : masses_room ≤ length masses
-  pub scores_room : bracket_limit ≤ length scores
   pub few_brackets_lem : n ≤ bracket_limit
   pub texts_room : length (flat bracket_texts ks) ≤ line_limit
   pub bytes_long : bytes_size ≤ length bytes

@@ -5,14 +5,13 @@ use Rattle.scope.specs.Limits.{residue_limit, bracket_limit}
 use Rattle.scope.specs.Line.{Line}
 use Rattle.scope.specs.Lists.{laid}
 use Rattle.scope.specs.Layout.{bytes_size, numbers_size, residues_at, letters_at, sections_at, counts_row, bytes_of, numbers_of}
-use Rattle.sheet.specs.Rows.{LineNoted}
+use Rattle.sheet.specs.declared.Sheet.{Sheet}
+use Rattle.sheet.specs.Kept.{LineNoted}
 
 -- ---- in front of the rows: the numbers of residues and brackets, then letters and sections
 pub record FrontFits (letters sections : List ℕ) (residues brackets : ℕ) (bytes : List ℕ) : Type 0 where
   pub few_residues : residues ≤ residue_limit
   pub few_brackets_lem : brackets ≤ bracket_limit
-  pub letters_room : residue_limit ≤ length letters
-  pub sections_room : residue_limit ≤ length sections
   pub bytes_long : bytes_size ≤ length bytes
 
 abbrev pub front_put : List ℕ → List ℕ → ℕ → ℕ → List ℕ → List ℕ
@@ -27,9 +26,9 @@ pub record Clean (bytes : List ℕ) (numbers : List ℤ) : Type 0 where
   pub numbers_room : numbers_size ≤ length numbers
   pub numbers_zero : take numbers_size numbers ≡ replicate numbers_size (pos 0)
 
-pub record Fills (line letters sections heads parts : List ℕ) (masses scores : List ℤ) (residues brackets : ℕ) (bytes : List ℕ) (numbers : List ℤ) : Type 0 where
+pub record Fills (line : List ℕ) (sheet : Sheet) (residues brackets : ℕ) (bytes : List ℕ) (numbers : List ℤ) : Type 0 where
   pub holds_line : Line ℕ
-  pub line_noted : LineNoted line letters sections heads parts masses scores residues brackets holds_line
+  pub line_noted : LineNoted line sheet residues brackets holds_line
   pub clean : Clean bytes numbers
 
 pub record FilledAll (bytes : List ℕ) (numbers : List ℤ) (bytes' : List ℕ) (numbers' : List ℤ) (l : Line ℕ) : Type 0 where

@@ -67,8 +67,6 @@ row_from line parts m t =
 
 -- it fits as part j of bracket k, its texts behind t others
 pub record RowFits (line parts : List ℕ) (masses : List ℤ) (m k j t : ℕ) (bytes : List ℕ) (numbers : List ℤ) : Type 0 where
-  pub parts_room_is : parts_room ≤ length parts
-  pub masses_room_is : masses_room ≤ length masses
   pub few_rows : m < masses_room
   pub value_byte : value_field parts m < byte_limit
   pub key_byte : key_field parts m < byte_limit
@@ -88,7 +86,6 @@ pub record RowFits (line parts : List ℕ) (masses : List ℤ) (m k j t : ℕ) (
 
 -- it is a composition, and can be cut
 pub record RowCut (line parts : List ℕ) (m : ℕ) : Type 0 where
-  pub parts_room_is : parts_room ≤ length parts
   pub few_rows : m < masses_room
   pub text_order : text_from_field parts m ≤ text_to_field parts m
   pub text_inside : text_to_field parts m ≤ length line
@@ -137,8 +134,6 @@ PartsNoted line parts masses m ps = (us : List (Part ℕ)) (p : Part ℕ) (vs : 
 pub record PartsFit (line parts : List ℕ) (masses : List ℤ) (m n k t : ℕ) (ps : List (Part ℕ)) (a : Pieces) (bytes : List ℕ) (numbers : List ℤ) : Type 0 where
   pub many : n ≡ length ps
   pub noted : PartsNoted line parts masses m ps
-  pub parts_room_is : parts_room ≤ length parts
-  pub masses_room_is : masses_room ≤ length masses
   pub few_rows : m + n ≤ masses_room
   pub few_brackets_lem : k < bracket_limit
   pub few_parts_lem : n ≤ part_limit

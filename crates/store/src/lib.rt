@@ -9,13 +9,14 @@ ghost use Rattle.scope.specs.Layout.{bytes_size, numbers_size, row_at, places_at
 ghost use Rattle.scope.specs.Refusals.{outcome, accepted};
 ghost use Rattle.store.specs.Areas.{Pieces};
 ghost use Rattle.glycans.specs.Cut.{Room, PutBefore};
-ghost use Rattle.sheet.specs.Rows.{parts_room, masses_room};
+ghost use Rattle.sheet.specs.Rows.{masses_room};
 ghost use Rattle.store.specs.PartPut.{Copies, is_composed, text_put, offset_of, RowFits, RowCut, ShortIs, ComposedFits, NotedFits, RowPut, SomePartsFit, PartsFit, PartsPut};
 ghost use Rattle.store.specs.BracketPut.{head_from, HeadGoesIn, places_put, PlacesFit, SomeBracketFits, BracketGoesIn, BracketPut, SomeBracketsFit, BracketsFit, BracketsPut};
 ghost use Rattle.store.specs.Filled.{FrontFits, front_put, Fills, FilledAll};
 
 use glycans::Cutting;
 use scope::tables::Tables;
+use sheet::Sheet;
 
 // ---- zeros
 
@@ -76,20 +77,12 @@ pub fn offset_of(n: usize, t: usize) -> usize
     t
 }
 
-// A mass or a score of the sheet.
-fn number(numbers: &[i64], at: usize) -> i64
-    requires { at < length numbers.now }
-    ensures { result ≡ get_or numbers.now at (pos 0) }
-{
-    numbers[at]
-}
-
 // the code of a text
 const TEXT: usize = 2;
 
 // Whether row m is a text behind the key of compositions.
 pub fn is_composition(sheet: &Sheet, m: usize) -> bool
-    requires { (parts_room ≤ length sheet.now.parts) × (m < masses_room) }
+    requires { m < masses_room }
     ensures { result ≡ is_composed sheet.now.parts m }
 {
     (sheet.key_of(m) == Cutting::KEY) & (sheet.value_of(m) == TEXT)
@@ -108,13 +101,7 @@ pub fn put_composition(line: &[u8], sheet: &Sheet, m: usize, out: &mut [u8], at:
     requires { RowCut line.now sheet.now.parts m × Room out.old at (text_put line.now sheet.now.parts m) }
     ensures { PutBefore out.old at (text_put line.now sheet.now.parts m) out.new result }
 {
-    glycans::put_short(
-        line,
-        sheet.text_from(m),
-        sheet.text_to(m),
-        out,
-        at,
-    )
+    glycans::put_short(line, sheet.text_from(m), sheet.text_to(m), out, at)
 }
 
 // Row m, as part j of bracket k, its text and its label behind t bytes of others. Answers how many bytes of texts there are then.
@@ -199,7 +186,7 @@ fn store_noted(
     let decimals = sheet.decimals_of(m) as u8;
     let offset = offset_of(n + l, t);
     areas::put_part(bytes, k, j, value, key, decimals, n as u8, l as u8, offset);
-    areas::put_mass(numbers, k, j, number(masses, m));
+    areas::put_mass(numbers, k, j, sheet.mass_of(m));
     t + n + l
 }
 
@@ -273,25 +260,19 @@ fn store_bracket(
     requires { SomeBracketFits line.now sheet.now.heads sheet.now.parts sheet.now.masses sheet.now.scores k t bytes.old numbers.old }
     ensures { (b : Bracket ℕ) (a : Pieces) → BracketGoesIn line.now sheet.now.heads sheet.now.parts sheet.now.masses sheet.now.scores k t b a bytes.old numbers.old → BracketPut k t b a result bytes.new numbers.new }
 {
-    store_head(heads, k, bytes);
+    store_head(sheet, k, bytes);
     let m = sheet.base_of(k);
     let n = sheet.parts_of(k);
     let u = store_parts(line, sheet, m, n, k, t, bytes, numbers);
     let at = sheet.places_of(k);
     let many = sheet.many_of(k);
     store_places(line, at, many, k, bytes);
-    areas::put_score(numbers, k, number(scores, k));
+    areas::put_score(numbers, k, sheet.points_of(k));
     u
 }
 
 // The first n brackets, one behind another.
-fn store_brackets(
-    line: &[u8],
-    sheet: &Sheet,
-    n: usize,
-    bytes: &mut [u8],
-    numbers: &mut [i64],
-)
+fn store_brackets(line: &[u8], sheet: &Sheet, n: usize, bytes: &mut [u8], numbers: &mut [i64])
     requires { SomeBracketsFit line.now sheet.now.heads sheet.now.parts sheet.now.masses sheet.now.scores n bytes.old numbers.old }
     ensures { (ks : List (Bracket ℕ)) (a : Pieces) → BracketsFit line.now sheet.now.heads sheet.now.parts sheet.now.masses sheet.now.scores n ks a bytes.old numbers.old → BracketsPut ks a bytes.new numbers.new }
 {
@@ -311,8 +292,8 @@ fn store_front(sheet: &Sheet, residues: usize, brackets: usize, bytes: &mut [u8]
     ensures { bytes.new ≡ front_put sheet.now.letters sheet.now.sections residues brackets bytes.old }
 {
     areas::put_counts(bytes, residues, brackets);
-    copy(letters, 0, residues, bytes, Tables::LETTERS);
-    copy(sections, 0, residues, bytes, Tables::SECTIONS);
+    copy(&sheet.letters, 0, residues, bytes, Tables::LETTERS);
+    copy(&sheet.sections, 0, residues, bytes, Tables::SECTIONS);
 }
 
 // The tables of an accepted line, from the sheet into areas whose room for them is zero.
@@ -327,6 +308,6 @@ pub fn store(
     requires { Fills line.now sheet.now residues brackets bytes.old numbers.old }
     ensures { (l : Line ℕ) → outcome line.now ≡ accepted l → FilledAll bytes.old numbers.old bytes.new numbers.new l }
 {
-    store_front(letters, sections, residues, brackets, bytes);
+    store_front(sheet, residues, brackets, bytes);
     store_brackets(line, sheet, brackets, bytes, numbers);
 }

@@ -4,24 +4,16 @@ use Rattle.held.proofs.BracketLaws.{frame_fits, some_places, parting_start, part
 use Rattle.held.proofs.bracket_held.Goals as goal
 
 pub base_of-m-requires : goal.base_of-m-requires
-base_of-m-requires c =
-    let f = c.requires.1 in
-    (f.heads_room_is, f.few_brackets_lem)
+base_of-m-requires c = c.requires.1.few_brackets_lem
 
 pub parts_of-n-requires : goal.parts_of-n-requires
-parts_of-n-requires c =
-    let f = c.requires.1 in
-    (f.heads_room_is, f.few_brackets_lem)
+parts_of-n-requires c = c.requires.1.few_brackets_lem
 
 pub places_of-at-requires : goal.places_of-at-requires
-places_of-at-requires c =
-    let f = c.requires.1 in
-    (f.heads_room_is, f.few_brackets_lem)
+places_of-at-requires c = c.requires.1.few_brackets_lem
 
 pub many_of-many-requires : goal.many_of-many-requires
-many_of-many-requires c =
-    let f = c.requires.1 in
-    (f.heads_room_is, f.few_brackets_lem)
+many_of-many-requires c = c.requires.1.few_brackets_lem
 
 pub frame_held-requires : goal.frame_held-requires
 frame_held-requires c = frame_fits c.parts_of-n.ensures.0 c.requires

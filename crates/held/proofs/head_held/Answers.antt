@@ -6,7 +6,7 @@ use Rattle.held.proofs.head_held.Goals as goal
 
 pub returns : goal.returns
 returns c =
-    head_told (record { low = λ i. omega (arith, c.shared_slice_known-2-1.given i); long = c.requires.2 }) c.args.k c.requires.1
+    head_told (record { low = λ i. omega (arith, c.shared_slice_known-1.given i); long = c.requires.1 }) c.args.k c.requires.0
     (tells_equal c.kind.ensures.0 c.kind_of.ensures.0)
     (tells_equal c.first.ensures.0 c.first_of.ensures.0)
     (tells_equal c.last.ensures.0 c.last_of.ensures.0)

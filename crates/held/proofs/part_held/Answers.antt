@@ -4,7 +4,7 @@ use Rattle.store.proofs.PutRows.{composed_fits, noted_fits}
 use Rattle.held.proofs.part_held.Goals as goal
 
 pub is_composition-requires : goal.is_composition-requires
-is_composition-requires c = (c.requires.parts_room_is, c.requires.few_rows)
+is_composition-requires c = c.requires.few_rows
 
 pub composition_held-requires : goal.composition_held-requires
 composition_held-requires c = composed_fits c.requires (sym c.is_composition.ensures ∙ c.if-is_composition.true)

@@ -15,11 +15,6 @@ store_places-requires c =
     some_places c.base_of-m.ensures.0 c.parts_of-n.ensures.0 c.store_head.ensures c.places_of-at.ensures.0 c.many_of-many.ensures.0
     c.store_parts-u.auto.bytes c.requires
 
-pub number-requires : goal.number-requires
-number-requires c =
-    let f = c.requires.fits in
-    omega (arith, f.few_brackets_lem, f.scores_room)
-
 pub put_score-requires : goal.put_score-requires
 put_score-requires c =
     let f = c.requires.fits in
@@ -28,4 +23,4 @@ put_score-requires c =
 pub returns : goal.returns
 returns c =
     bracket_put c.base_of-m.ensures.0 c.parts_of-n.ensures.0 c.store_head.ensures c.places_of-at.ensures.0 c.many_of-many.ensures.0
-    c.store_parts-u.auto.bytes c.store_parts-u.ensures c.store_places.ensures (back _ c.number.type_inv c.number.ensures) c.put_score.ensures
+    c.store_parts-u.auto.bytes c.store_parts-u.ensures c.store_places.ensures (back _ c.points_of.type_inv c.points_of.ensures) c.put_score.ensures

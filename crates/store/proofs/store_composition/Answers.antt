@@ -15,4 +15,4 @@ returns c =
     let w = c.requires.composed_row in
     row_put c.requires.fits c.composition-c.ensures.sized c.label_from-label.ensures.0 (ap₂ (λ a b. a - b) c.label_to.ensures.0 c.label_from-label.ensures.0)
     (put_behind_texts (texts_at + c.args.t) c.put_composition.ensures refl c.composition-c.ensures.sized) c.copy.ensures
-    (cut_value_lem w) (cut_key w) (cut_decimals w) c.offset_of-offset.ensures.0 c.put_part.ensures (cut_mass w c.args.masses.now c.composition-c.ensures (to_z_pos w64 c.composition-c.result.mass c.composition-c.ensures.fits)) c.put_mass.ensures
+    (cut_value_lem w) (cut_key w) (cut_decimals w) c.offset_of-offset.ensures.0 c.put_part.ensures (cut_mass w c.args.sheet.now.masses c.composition-c.ensures (to_z_pos w64 c.composition-c.result.mass c.composition-c.ensures.fits)) c.put_mass.ensures

@@ -1,5 +1,4 @@
 -- `store::store_noted` meets its contract: the texts, the row and the mass are put one after another. Assumes nothing.
-use native.Mathlib.Omega.{arith}
 use Rattle.store.proofs.PutRows.{back, noted_put}
 use borrow.Author.Rules.{rules}
 use Rattle.store.proofs.store_noted.Goals as goal
@@ -9,13 +8,10 @@ put_part-requires c =
     let h = c.requires.fits in
     search rules
 
-pub number-requires : goal.number-requires
-number-requires c = omega (arith, c.requires.fits.masses_room_is, c.requires.fits.few_rows)
-
 pub put_mass-requires : goal.put_mass-requires
 put_mass-requires c = (c.requires.fits.numbers_long, c.requires.fits.few_brackets_lem, c.requires.fits.few_parts_lem)
 
 pub returns : goal.returns
 returns c =
     noted_put c.requires.fits c.requires.plain c.text_from-text.ensures.0 c.text_to.ensures.0 c.label_from-label.ensures.0 c.label_to.ensures.0 c.copy.ensures c.copy-2.ensures
-    c.value_of-value.ensures.0 c.key_of-key.ensures.0 c.decimals_of-decimals.ensures.0 c.offset_of-offset.ensures.0 c.put_part.ensures (back _ c.number.type_inv c.number.ensures) c.put_mass.ensures
+    c.value_of-value.ensures.0 c.key_of-key.ensures.0 c.decimals_of-decimals.ensures.0 c.offset_of-offset.ensures.0 c.put_part.ensures (back _ c.mass_of.type_inv c.mass_of.ensures) c.put_mass.ensures

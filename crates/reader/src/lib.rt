@@ -44,9 +44,7 @@ fn store_anew(
     ensures { Stored line.now bytes.old numbers.old bytes.new numbers.new }
 {
     store::clear(bytes, numbers);
-    store::store(
-        line, sheet, residues, brackets, bytes, numbers,
-    );
+    store::store(line, sheet, residues, brackets, bytes, numbers);
 }
 
 // Any line of bytes, into areas that have room: the verdict, and where the line is accepted its tables, from what the walk has noted.
@@ -55,10 +53,7 @@ fn read_roomy(line: &[u8], bytes: &mut [u8], numbers: &mut [i64]) -> Read
     ensures { ReadSays line.now bytes.old numbers.old result bytes.new numbers.new }
 {
     let mut sheet = Sheet::new();
-    let judged = verdict::judge(
-        line,
-        &mut sheet,
-    );
+    let judged = verdict::judge(line, &mut sheet);
     match judged {
         Judged::Refused { number, place } => Read::Refused { number, place },
         Judged::Holds {
@@ -66,10 +61,7 @@ fn read_roomy(line: &[u8], bytes: &mut [u8], numbers: &mut [i64]) -> Read
             brackets,
             floaters: _,
         } => {
-            store_anew(
-                line, &sheet, residues, brackets,
-                bytes, numbers,
-            );
+            store_anew(line, &sheet, residues, brackets, bytes, numbers);
             Read::Accepted
         }
     }

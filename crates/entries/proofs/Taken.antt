@@ -5,6 +5,7 @@ use Prim.Native.Nat.{ℕ}
 use native.Mathlib.Omega.{arith}
 use lib.IntN.{ℤ}
 use lib.ListN.{length}
+use Rattle.sheet.specs.declared.Sheet.{Sheet}
 use Rattle.scope.specs.Line.{Line}
 use Rattle.scope.specs.Refusals.{accepted, refused, outcome}
 use Rattle.scope.specs.Canonical.{canonical}
@@ -47,8 +48,8 @@ floats_of s {l} e f m q =
 total_bare : (l : Line ℕ) → total_text (tables_of l) ≡ total_text l
 total_bare l = rw (same_lacking l, same_total l)
 
-pub taken_text : {line letters sections heads parts : List ℕ} {masses scores : List ℤ} {residues brackets many : ℕ} {bs : List ℕ} {ns : List ℤ} {bs' : List ℕ} {ns' : List ℤ}
-    → (f : Fills line letters sections heads parts masses scores residues brackets bs ns) → Floats line many → Stored line bs ns bs' ns'
+pub taken_text : {line : List ℕ} {sheet : Sheet} {residues brackets many : ℕ} {bs : List ℕ} {ns : List ℤ} {bs' : List ℕ} {ns' : List ℤ}
+    → (f : Fills line sheet residues brackets bs ns) → Floats line many → Stored line bs ns bs' ns'
     → fields (ok_fields residues brackets many (tables_in bs' ns')) ≡ report (outcome line)
 taken_text f floats w =
     let l = f.holds_line in

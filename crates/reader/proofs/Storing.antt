@@ -13,7 +13,8 @@ use Rattle.scope.specs.Lists.{laid}
 use Rattle.layout_laws.proofs.Holds.{Holds}
 use Rattle.layout_laws.proofs.Laws.{accepted_held, bytes_fill, numbers_fill, laid_bytes, laid_numbers}
 use Rattle.accepted_laws.specs.Laws.{accepted_within}
-use Rattle.sheet.specs.Rows.{LineNoted}
+use Rattle.sheet.specs.declared.Sheet.{Sheet}
+use Rattle.sheet.specs.Kept.{LineNoted}
 use Rattle.store.specs.Filled.{Clean, Fills, FilledAll}
 use Rattle.reader.specs.ReadSays.{Stores, Stored}
 
@@ -42,9 +43,9 @@ cleared_clean bs ns b n =
     })
 
 -- what the sheet has of an accepted line goes into clean areas
-pub fills : {line letters sections heads parts : List ℕ} {masses scores : List ℤ} {residues brackets : ℕ} {bs : List ℕ} {ns : List ℤ} {l : Line ℕ}
-    → LineNoted line letters sections heads parts masses scores residues brackets l → Clean bs ns
-    → Fills line letters sections heads parts masses scores residues brackets bs ns
+pub fills : {line : List ℕ} {sheet : Sheet} {residues brackets : ℕ} {bs : List ℕ} {ns : List ℤ} {l : Line ℕ}
+    → LineNoted line sheet residues brackets l → Clean bs ns
+    → Fills line sheet residues brackets bs ns
 fills {l = l} w c = record { holds_line = l; line_noted = w; clean = c }
 
 pub filled : {line bs : List ℕ} {ns : List ℤ} {bs' : List ℕ} {ns' : List ℤ} → ((l : Line ℕ) → outcome line ≡ accepted l → FilledAll bs ns bs' ns' l)
@@ -52,9 +53,9 @@ pub filled : {line bs : List ℕ} {ns : List ℤ} {bs' : List ℕ} {ns' : List �
 filled f = record { bytes_now = λ l e. (f l e).bytes_are; numbers_now = λ l e. (f l e).numbers_are }
 
 module _ (bs : List ℕ) (ns : List ℤ) (bs₁ : List ℕ) (ns₁ : List ℤ) (b : bs₁ ≡ cleared 0 bytes_size bs) (n : ns₁ ≡ cleared (pos 0) numbers_size ns) where
-  pub fills_cleared : {line letters sections heads parts : List ℕ} {masses scores : List ℤ} {residues brackets : ℕ}
-      → Stores line letters sections heads parts masses scores residues brackets bs ns
-      → Fills line letters sections heads parts masses scores residues brackets bs₁ ns₁
+  pub fills_cleared : {line : List ℕ} {sheet : Sheet} {residues brackets : ℕ}
+      → Stores line sheet residues brackets bs ns
+      → Fills line sheet residues brackets bs₁ ns₁
   fills_cleared w = fills w.line_noted (cleared_clean bs ns b n)
 
   pub filled_cleared : (line bs' : List ℕ) (ns' : List ℤ) → ((l : Line ℕ) → outcome line ≡ accepted l → FilledAll bs₁ ns₁ bs' ns' l) → Stored line bs ns bs' ns'

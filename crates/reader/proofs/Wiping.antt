@@ -6,6 +6,7 @@ use native.Mathlib.Omega.{arith}
 use lib.IntN.{ℤ, pos}
 use lib.ListN.{length, take, drop, replicate, length-append, length-drop, length-map, length-replicate, replicate-append-replicate, take-append-drop, drop_of_length-le}
 use lib.Seq.{take_all, take_at, drop_at, drop-append-le, drop-append-add, drop-drop}
+use Rattle.sheet.specs.declared.Sheet.{Sheet}
 use Rattle.scope.specs.Limits.{line_limit, residue_limit, bracket_limit}
 use Rattle.scope.specs.Line.{Line}
 use Rattle.scope.specs.Lists.{flat, padded, laid}
@@ -180,9 +181,9 @@ relaid z n t l e h =
     ∙ ap (λ x. x ++ drop n l) (sym h)
     ∙ take-append-drop n l
 
-pub put_back : {line letters sections heads parts : List ℕ} {masses scores : List ℤ} {residues brackets : ℕ} {bs : List ℕ} {ns : List ℤ} {bs₁ : List ℕ} {ns₁ : List ℤ}
+pub put_back : {line : List ℕ} {sheet : Sheet} {residues brackets : ℕ} {bs : List ℕ} {ns : List ℤ} {bs₁ : List ℕ} {ns₁ : List ℤ}
     {bs₂ : List ℕ} {ns₂ : List ℤ}
-    → Fills line letters sections heads parts masses scores residues brackets bs ns → Stored line bs ns bs₁ ns₁ → Wiped bs₁ ns₁ bs₂ ns₂
+    → Fills line sheet residues brackets bs ns → Stored line bs ns bs₁ ns₁ → Wiped bs₁ ns₁ bs₂ ns₂
     → (bs₂ ≡ bs) × (ns₂ ≡ ns)
 put_back {line} {bs = bs} {ns} w p q =
     let l = w.holds_line in

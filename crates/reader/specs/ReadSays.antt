@@ -6,7 +6,8 @@ use Rattle.scope.specs.Refusals.{accepted, outcome}
 use Rattle.scope.specs.Layout.{bytes_size, numbers_size, bytes_of, numbers_of}
 use Rattle.scope.specs.Lists.{laid}
 use Rattle.layout_laws.proofs.Holds.{Holds}
-use Rattle.sheet.specs.Rows.{LineNoted}
+use Rattle.sheet.specs.declared.Sheet.{Sheet}
+use Rattle.sheet.specs.Kept.{LineNoted}
 use Rattle.store.specs.Filled.{Clean}
 use Rattle.scope.specs.Answers.{says_read, says_outcome, read_outcome, bytes_after, numbers_after}
 
@@ -23,9 +24,9 @@ pub record HoldSome (n : ℕ) (bytes : List ℕ) (numbers : List ℤ) : Type 0 w
   pub holds : Holds bytes numbers text held
 
 -- an accepted line that is noted in the sheet, and areas that have room
-pub record Stores (line letters sections heads parts : List ℕ) (masses scores : List ℤ) (residues brackets : ℕ) (bytes : List ℕ) (numbers : List ℤ) : Type 0 where
+pub record Stores (line : List ℕ) (sheet : Sheet) (residues brackets : ℕ) (bytes : List ℕ) (numbers : List ℤ) : Type 0 where
   pub held : Line ℕ
-  pub line_noted : LineNoted line letters sections heads parts masses scores residues brackets held
+  pub line_noted : LineNoted line sheet residues brackets held
   pub bytes_room : bytes_size ≤ length bytes
   pub numbers_room : numbers_size ≤ length numbers
 

@@ -44,13 +44,7 @@ fn store_anew(
     ensures { Stored line.now bytes.old numbers.old bytes.new numbers.new }
 {
     store::clear(bytes, numbers);
-<<<<<<< HEAD
-    store::store(
-        line, sheet, residues, brackets, bytes, numbers,
-    );
-=======
     store::store(line, sheet, residues, brackets, bytes, numbers);
->>>>>>> 655fc8f576a1bc6e1101eb7895684446490bef9f
 }
 
 // Any line of bytes, into areas that have room: the verdict, and where the line is accepted its tables, from what the walk has noted.
@@ -59,14 +53,7 @@ fn read_roomy(line: &[u8], bytes: &mut [u8], numbers: &mut [i64]) -> Read
     ensures { ReadSays line.now bytes.old numbers.old result bytes.new numbers.new }
 {
     let mut sheet = Sheet::new();
-<<<<<<< HEAD
-    let judged = verdict::judge(
-        line,
-        &mut sheet,
-    );
-=======
     let judged = verdict::judge(line, &mut sheet);
->>>>>>> 655fc8f576a1bc6e1101eb7895684446490bef9f
     match judged {
         Judged::Refused { number, place } => Read::Refused { number, place },
         Judged::Holds {
@@ -74,14 +61,7 @@ fn read_roomy(line: &[u8], bytes: &mut [u8], numbers: &mut [i64]) -> Read
             brackets,
             floaters: _,
         } => {
-<<<<<<< HEAD
-            store_anew(
-                line, &sheet, residues, brackets,
-                bytes, numbers,
-            );
-=======
             store_anew(line, &sheet, residues, brackets, bytes, numbers);
->>>>>>> 655fc8f576a1bc6e1101eb7895684446490bef9f
             Read::Accepted
         }
     }

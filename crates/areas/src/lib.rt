@@ -5,7 +5,7 @@ ghost use Rattle.std.specs.Prelude.{◌≡◌, ◌+◌, ◌*◌, ◌<◌, ◌≤
 ghost use Rattle.std.proofs.lemmas.List.Edits.{sets};
 ghost use Rattle.scope.specs.Bytes.{byte_limit, wide_limit};
 ghost use Rattle.scope.specs.Limits.{residue_limit, bracket_limit, part_limit, place_limit, position_limit};
-ghost use Rattle.scope.specs.Layout.{bytes_size, numbers_size, residues_at, letters_at, sections_at, row_at, count_at, part_at, places_at, site_at, mass_at, counts_row, head_row, part_fields, byte_at, wide_at, residues_field, brackets_field, letter_field, section_field, kind_field, first_field, last_field, count_field, parts_field, score_field, value_field, key_field, decimals_field, text_field, label_field, offset_field, places_field, site_field, mass_field, score_number};
+ghost use Rattle.scope.specs.Layout.{bytes_size, numbers_size, residues_at, letters_at, sections_at, row_at, count_at, part_at, places_at, site_at, mass_at, two_bytes, counts_row, head_row, part_fields, byte_at, wide_at, residues_field, brackets_field, letter_field, section_field, kind_field, first_field, last_field, count_field, parts_field, score_field, value_field, key_field, decimals_field, text_field, label_field, offset_field, places_field, site_field, mass_field, score_number};
 
 use scope::answers::Placement;
 use scope::tables::Tables;
@@ -50,24 +50,46 @@ const LABEL: usize = 4;
 
 const OFFSET: usize = 5;
 
-// the number of a bracket's places, behind its head and the rows of its parts; a byte for each place follows
-const PLACES: usize = Tables::PARTS * Tables::PART;
+// ---- where a field lies
 
-// how many values a byte has
-const BYTE: usize = 256;
+// The row of bracket k: its head, which begins with its kind.
+fn row_at(k: usize) -> usize
+    requires { k < bracket_limit }
+    ensures { result ≡ row_at k }
+{
+    Tables::ROWS + k * Tables::ROW
+}
+
+// The row of its part j, which begins with its value.
+fn part_at(k: usize, j: usize) -> usize
+    requires { (k < bracket_limit) × (j < part_limit) }
+    ensures { result ≡ part_at k j }
+{
+    row_at(k) + Tables::HEAD + j * Tables::PART
+}
+
+// The number of its places, behind the rows of its parts; a byte for each place follows.
+fn places_at(k: usize) -> usize
+    requires { k < bracket_limit }
+    ensures { result ≡ places_at k }
+{
+    row_at(k) + Tables::HEAD + Tables::PARTS * Tables::PART
+}
+
+// ---- reading
 
 // A byte as a number.
 pub fn wide(b: u8) -> usize
     ensures { (result ≡ b) × (result < byte_limit) }
 {
-    b as usize
+    usize::from(b)
 }
 
 fn byte(bytes: &Bytes, at: usize) -> usize
     requires { at < length bytes.now }
     ensures { (result ≡ byte_at bytes.now at) × (result < byte_limit) }
 {
-    wide(bytes[at])
+    usize::from(bytes[at])
 }
 
 // The number in two bytes, low byte first.
@@ -75,9 +97,7 @@ fn two_bytes(bytes: &Bytes, at: usize) -> usize
     requires { at + 1 < length bytes.now }
     ensures { (result ≡ wide_at bytes.now at) × (result < wide_limit) }
 {
-    let low = byte(bytes, at);
-    let high = byte(bytes, at + 1);
-    low + BYTE * high
+    usize::from(u16::from_le_bytes([bytes[at], bytes[at + 1]]))
 }
 
 // How many residues there are.
@@ -114,7 +134,7 @@ pub fn kind(bytes: &Bytes, k: usize) -> usize
     requires { k < bracket_limit }
     ensures { (result ≡ kind_field bytes.now k) × (result < byte_limit) }
 {
-    byte(bytes, Tables::ROWS + k * Tables::ROW)
+    byte(bytes, row_at(k))
 }
 
 // The first position it stands on.
@@ -122,7 +142,7 @@ pub fn first(bytes: &Bytes, k: usize) -> usize
     requires { k < bracket_limit }
     ensures { (result ≡ first_field bytes.now k) × (result < wide_limit) }
 {
-    two_bytes(bytes, Tables::ROWS + k * Tables::ROW + FIRST)
+    two_bytes(bytes, row_at(k) + FIRST)
 }
 
 // The last.
@@ -130,7 +150,7 @@ pub fn last(bytes: &Bytes, k: usize) -> usize
     requires { k < bracket_limit }
     ensures { (result ≡ last_field bytes.now k) × (result < wide_limit) }
 {
-    two_bytes(bytes, Tables::ROWS + k * Tables::ROW + LAST)
+    two_bytes(bytes, row_at(k) + LAST)
 }
 
 // Its count.
@@ -138,7 +158,7 @@ pub fn count(bytes: &Bytes, k: usize) -> usize
     requires { k < bracket_limit }
     ensures { (result ≡ count_field bytes.now k) × (result < byte_limit) }
 {
-    byte(bytes, Tables::ROWS + k * Tables::ROW + COUNT)
+    byte(bytes, row_at(k) + COUNT)
 }
 
 // How many parts it has.
@@ -146,7 +166,7 @@ pub fn parts(bytes: &Bytes, k: usize) -> usize
     requires { k < bracket_limit }
     ensures { (result ≡ parts_field bytes.now k) × (result < byte_limit) }
 {
-    byte(bytes, Tables::ROWS + k * Tables::ROW + PARTS)
+    byte(bytes, row_at(k) + PARTS)
 }
 
 // 0 for no score, else one more than its decimals.
@@ -154,7 +174,7 @@ pub fn score(bytes: &Bytes, k: usize) -> usize
     requires { k < bracket_limit }
     ensures { (result ≡ score_field bytes.now k) × (result < byte_limit) }
 {
-    byte(bytes, Tables::ROWS + k * Tables::ROW + SCORE)
+    byte(bytes, row_at(k) + SCORE)
 }
 
 // The code of the value of its part j.
@@ -162,10 +182,7 @@ pub fn value(bytes: &Bytes, k: usize, j: usize) -> usize
     requires { (k < bracket_limit) × (j < part_limit) }
     ensures { (result ≡ value_field bytes.now k j) × (result < byte_limit) }
 {
-    byte(
-        bytes,
-        Tables::ROWS + k * Tables::ROW + Tables::HEAD + j * Tables::PART,
-    )
+    byte(bytes, part_at(k, j))
 }
 
 // The code of its key.
@@ -173,10 +190,7 @@ pub fn key(bytes: &Bytes, k: usize, j: usize) -> usize
     requires { (k < bracket_limit) × (j < part_limit) }
     ensures { (result ≡ key_field bytes.now k j) × (result < byte_limit) }
 {
-    byte(
-        bytes,
-        Tables::ROWS + k * Tables::ROW + Tables::HEAD + j * Tables::PART + KEY,
-    )
+    byte(bytes, part_at(k, j) + KEY)
 }
 
 // The decimals of its mass.
@@ -184,10 +198,7 @@ pub fn decimals(bytes: &Bytes, k: usize, j: usize) -> usize
     requires { (k < bracket_limit) × (j < part_limit) }
     ensures { (result ≡ decimals_field bytes.now k j) × (result < byte_limit) }
 {
-    byte(
-        bytes,
-        Tables::ROWS + k * Tables::ROW + Tables::HEAD + j * Tables::PART + DECIMALS,
-    )
+    byte(bytes, part_at(k, j) + DECIMALS)
 }
 
 // The length of its text.
@@ -195,10 +206,7 @@ pub fn text_length(bytes: &Bytes, k: usize, j: usize) -> usize
     requires { (k < bracket_limit) × (j < part_limit) }
     ensures { (result ≡ text_field bytes.now k j) × (result < byte_limit) }
 {
-    byte(
-        bytes,
-        Tables::ROWS + k * Tables::ROW + Tables::HEAD + j * Tables::PART + TEXT,
-    )
+    byte(bytes, part_at(k, j) + TEXT)
 }
 
 // The length of its label.
@@ -206,10 +214,7 @@ pub fn label_length(bytes: &Bytes, k: usize, j: usize) -> usize
     requires { (k < bracket_limit) × (j < part_limit) }
     ensures { (result ≡ label_field bytes.now k j) × (result < byte_limit) }
 {
-    byte(
-        bytes,
-        Tables::ROWS + k * Tables::ROW + Tables::HEAD + j * Tables::PART + LABEL,
-    )
+    byte(bytes, part_at(k, j) + LABEL)
 }
 
 // Where its text begins among the texts, and its label behind that.
@@ -217,10 +222,7 @@ pub fn offset(bytes: &Bytes, k: usize, j: usize) -> usize
     requires { (k < bracket_limit) × (j < part_limit) }
     ensures { (result ≡ offset_field bytes.now k j) × (result < wide_limit) }
 {
-    two_bytes(
-        bytes,
-        Tables::ROWS + k * Tables::ROW + Tables::HEAD + j * Tables::PART + OFFSET,
-    )
+    two_bytes(bytes, part_at(k, j) + OFFSET)
 }
 
 // How many places bracket k has.
@@ -228,10 +230,7 @@ pub fn places(bytes: &Bytes, k: usize) -> usize
     requires { k < bracket_limit }
     ensures { (result ≡ places_field bytes.now k) × (result < byte_limit) }
 {
-    byte(
-        bytes,
-        Tables::ROWS + k * Tables::ROW + Tables::HEAD + PLACES,
-    )
+    byte(bytes, places_at(k))
 }
 
 // The site of its place j.
@@ -239,7 +238,7 @@ pub fn site(bytes: &Bytes, k: usize, j: usize) -> u8
     requires { (k < bracket_limit) × (j < place_limit) }
     ensures { result ≡ site_field bytes.now k j }
 {
-    bytes[Tables::ROWS + k * Tables::ROW + Tables::HEAD + PLACES + 1 + j]
+    bytes[places_at(k) + 1 + j]
 }
 
 // Its mass.
@@ -260,13 +259,20 @@ pub fn score_number(numbers: &Numbers, k: usize) -> i64
 
 // ---- writing
 
+// A number in two bytes, low byte first.
+fn put_two_bytes(bytes: &mut [u8], at: usize, n: usize)
+    requires { (at + 1 < length bytes.old) × (n < wide_limit) }
+    ensures { bytes.new ≡ sets bytes.old at (two_bytes n) }
+{
+    bytes[at..at + 2].copy_from_slice(&(n as u16).to_le_bytes());
+}
+
 // The numbers of residues and brackets.
 pub fn put_counts(bytes: &mut Bytes, residues: usize, brackets: usize)
     requires { (residues ≤ residue_limit) × (brackets ≤ bracket_limit) }
     ensures { bytes.new ≡ sets bytes.old residues_at (counts_row residues brackets) }
 {
-    bytes[RESIDUES] = (residues % BYTE) as u8;
-    bytes[RESIDUES + 1] = (residues / BYTE) as u8;
+    put_two_bytes(bytes, RESIDUES, residues);
     bytes[BRACKETS] = brackets as u8;
 }
 
@@ -293,12 +299,10 @@ pub fn put_head(
     requires { (k < bracket_limit) × (first < position_limit) × (last < position_limit) }
     ensures { bytes.new ≡ sets bytes.old (row_at k) (head_row kind first last count parts score) }
 {
-    let at = Tables::ROWS + k * Tables::ROW;
+    let at = row_at(k);
     bytes[at] = kind;
-    bytes[at + FIRST] = (first % BYTE) as u8;
-    bytes[at + FIRST + 1] = (first / BYTE) as u8;
-    bytes[at + LAST] = (last % BYTE) as u8;
-    bytes[at + LAST + 1] = (last / BYTE) as u8;
+    put_two_bytes(bytes, at + FIRST, first);
+    put_two_bytes(bytes, at + LAST, last);
     bytes[at + COUNT] = count;
     bytes[at + PARTS] = parts;
     bytes[at + SCORE] = score;
@@ -309,7 +313,7 @@ pub fn put_kind(bytes: &mut Bytes, k: usize, kind: u8)
     requires { k < bracket_limit }
     ensures { bytes.new ≡ set bytes.old (row_at k) kind }
 {
-    bytes[Tables::ROWS + k * Tables::ROW] = kind;
+    bytes[row_at(k)] = kind;
 }
 
 // Its count alone.
@@ -317,7 +321,7 @@ pub fn put_count(bytes: &mut Bytes, k: usize, count: u8)
     requires { k < bracket_limit }
     ensures { bytes.new ≡ set bytes.old (count_at k) count }
 {
-    bytes[Tables::ROWS + k * Tables::ROW + COUNT] = count;
+    bytes[row_at(k) + COUNT] = count;
 }
 
 // The row of its part j.
@@ -335,14 +339,13 @@ pub fn put_part(
     requires { (k < bracket_limit) × (j < part_limit) × (offset < wide_limit) }
     ensures { bytes.new ≡ sets bytes.old (part_at k j) (part_fields value key decimals text label offset) }
 {
-    let at = Tables::ROWS + k * Tables::ROW + Tables::HEAD + j * Tables::PART;
+    let at = part_at(k, j);
     bytes[at] = value;
     bytes[at + KEY] = key;
     bytes[at + DECIMALS] = decimals;
     bytes[at + TEXT] = text;
     bytes[at + LABEL] = label;
-    bytes[at + OFFSET] = (offset % BYTE) as u8;
-    bytes[at + OFFSET + 1] = (offset / BYTE) as u8;
+    put_two_bytes(bytes, at + OFFSET, offset);
 }
 
 // The number of bracket k's places.
@@ -350,7 +353,7 @@ pub fn put_places(bytes: &mut Bytes, k: usize, places: u8)
     requires { k < bracket_limit }
     ensures { bytes.new ≡ set bytes.old (places_at k) places }
 {
-    bytes[Tables::ROWS + k * Tables::ROW + Tables::HEAD + PLACES] = places;
+    bytes[places_at(k)] = places;
 }
 
 // The site of its place j.
@@ -358,7 +361,7 @@ pub fn put_site(bytes: &mut Bytes, k: usize, j: usize, site: u8)
     requires { (k < bracket_limit) × (j < place_limit) }
     ensures { bytes.new ≡ set bytes.old (site_at k j) site }
 {
-    bytes[Tables::ROWS + k * Tables::ROW + Tables::HEAD + PLACES + 1 + j] = site;
+    bytes[places_at(k) + 1 + j] = site;
 }
 
 // Its mass.

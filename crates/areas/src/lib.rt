@@ -5,7 +5,7 @@ ghost use Rattle.std.specs.Prelude.{◌≡◌, ◌+◌, ◌*◌, ◌<◌, ◌≤
 ghost use Rattle.std.proofs.lemmas.List.Edits.{sets};
 ghost use Rattle.scope.specs.Bytes.{byte_limit, wide_limit};
 ghost use Rattle.scope.specs.Limits.{residue_limit, bracket_limit, part_limit, place_limit, position_limit};
-ghost use Rattle.scope.specs.Layout.{bytes_size, numbers_size, residues_at, letters_at, sections_at, row_at, count_at, part_at, places_at, site_at, mass_at, two_bytes, counts_row, head_row, part_fields, byte_at, wide_at, residues_field, brackets_field, letter_field, section_field, kind_field, first_field, last_field, count_field, parts_field, score_field, value_field, key_field, decimals_field, text_field, label_field, offset_field, places_field, site_field, mass_field, score_number};
+ghost use Rattle.scope.specs.Layout.{residues_at, letters_at, sections_at, row_at, count_at, part_at, places_at, site_at, mass_at, two_bytes, counts_row, head_row, part_fields, byte_at, wide_at, residues_field, brackets_field, letter_field, section_field, kind_field, first_field, last_field, count_field, parts_field, score_field, value_field, key_field, decimals_field, text_field, label_field, offset_field, places_field, site_field, mass_field, score_number};
 
 use scope::answers::Placement;
 use scope::tables::Tables;
@@ -16,7 +16,7 @@ pub type Bytes = [u8; Tables::BYTES];
 pub type Numbers = [i64; Tables::NUMBERS];
 
 // The floaters: how many there are, the number of each one's bracket, and which of its copies it is, from 1.
-#[derive(Clone, Copy)]
+#[derive(Clone, Copy, Debug, PartialEq, Eq)]
 pub struct Floaters {
     pub count: usize,
     pub index: [u8; Placement::COPIES],
@@ -260,7 +260,7 @@ pub fn score_number(numbers: &Numbers, k: usize) -> i64
 // ---- writing
 
 // A number in two bytes, low byte first.
-fn put_two_bytes(bytes: &mut [u8], at: usize, n: usize)
+fn put_two_bytes(bytes: &mut Bytes, at: usize, n: usize)
     requires { (at + 1 < length bytes.old) × (n < wide_limit) }
     ensures { bytes.new ≡ sets bytes.old at (two_bytes n) }
 {

@@ -14,6 +14,7 @@ ghost use Rattle.store.specs.PartPut.{Copies, is_composed, text_put, offset_of, 
 ghost use Rattle.store.specs.BracketPut.{head_from, HeadGoesIn, places_put, PlacesFit, SomeBracketFits, BracketGoesIn, BracketPut, SomeBracketsFit, BracketsFit, BracketsPut};
 ghost use Rattle.store.specs.Filled.{FrontFits, front_put, Fills, FilledAll};
 
+use areas::{Bytes, Numbers};
 use glycans::Cutting;
 use scope::tables::Tables;
 use sheet::Sheet;
@@ -21,7 +22,7 @@ use sheet::Sheet;
 // ---- zeros
 
 // The first n bytes; what lies past them stays.
-pub fn zero_bytes(bytes: &mut [u8], n: usize)
+pub fn zero_bytes(bytes: &mut Bytes, n: usize)
     requires { n ≤ length bytes.old }
     ensures { bytes.new ≡ replicate n 0 ++ drop n bytes.old }
 {
@@ -33,7 +34,7 @@ pub fn zero_bytes(bytes: &mut [u8], n: usize)
 }
 
 // The first n numbers, likewise.
-pub fn zero_numbers(numbers: &mut [i64], n: usize)
+pub fn zero_numbers(numbers: &mut Numbers, n: usize)
     requires { n ≤ length numbers.old }
     ensures { numbers.new ≡ replicate n (pos 0) ++ drop n numbers.old }
 {
@@ -45,8 +46,7 @@ pub fn zero_numbers(numbers: &mut [i64], n: usize)
 }
 
 // Zeros in the room of the tables; what lies past it stays.
-pub fn clear(bytes: &mut [u8], numbers: &mut [i64])
-    requires { (bytes_size ≤ length bytes.old) × (numbers_size ≤ length numbers.old) }
+pub fn clear(bytes: &mut Bytes, numbers: &mut Numbers)
     ensures { (bytes.new ≡ replicate bytes_size 0 ++ drop bytes_size bytes.old) × (numbers.new ≡ replicate numbers_size (pos 0) ++ drop numbers_size numbers.old) }
 {
     zero_bytes(bytes, Tables::BYTES);
@@ -56,7 +56,7 @@ pub fn clear(bytes: &mut [u8], numbers: &mut [i64])
 // ---- a part
 
 // The n bytes of `from` from `a` on, to the place `at`.
-fn copy(from: &[u8], a: usize, n: usize, bytes: &mut [u8], at: usize)
+fn copy(from: &[u8], a: usize, n: usize, bytes: &mut Bytes, at: usize)
     requires { Copies from.now a n bytes.old at }
     ensures { bytes.new ≡ sets bytes.old at (part a n from.now) }
 {
@@ -112,8 +112,8 @@ fn store_part(
     k: usize,
     j: usize,
     t: usize,
-    bytes: &mut [u8],
-    numbers: &mut [i64],
+    bytes: &mut Bytes,
+    numbers: &mut Numbers,
 ) -> usize
     requires { RowFits line.now sheet.now.parts sheet.now.masses m k j t bytes.old numbers.old }
     ensures { RowPut line.now sheet.now.parts sheet.now.masses m k j t bytes.old numbers.old result bytes.new numbers.new }
@@ -132,8 +132,8 @@ fn store_composition(
     k: usize,
     j: usize,
     t: usize,
-    bytes: &mut [u8],
-    numbers: &mut [i64],
+    bytes: &mut Bytes,
+    numbers: &mut Numbers,
 ) -> usize
     requires { ComposedFits line.now sheet.now.parts sheet.now.masses m k j t bytes.old numbers.old }
     ensures { RowPut line.now sheet.now.parts sheet.now.masses m k j t bytes.old numbers.old result bytes.new numbers.new }
@@ -169,8 +169,8 @@ fn store_noted(
     k: usize,
     j: usize,
     t: usize,
-    bytes: &mut [u8],
-    numbers: &mut [i64],
+    bytes: &mut Bytes,
+    numbers: &mut Numbers,
 ) -> usize
     requires { NotedFits line.now sheet.now.parts sheet.now.masses m k j t bytes.old numbers.old }
     ensures { RowPut line.now sheet.now.parts sheet.now.masses m k j t bytes.old numbers.old result bytes.new numbers.new }
@@ -198,8 +198,8 @@ fn store_parts(
     n: usize,
     k: usize,
     t: usize,
-    bytes: &mut [u8],
-    numbers: &mut [i64],
+    bytes: &mut Bytes,
+    numbers: &mut Numbers,
 ) -> usize
     requires { SomePartsFit line.now sheet.now.parts sheet.now.masses m n k t bytes.old numbers.old }
     ensures { (ps : List (Part ℕ)) (a : Pieces) → PartsFit line.now sheet.now.parts sheet.now.masses m n k t ps a bytes.old numbers.old → PartsPut k t ps a result bytes.new numbers.new }
@@ -216,7 +216,7 @@ fn store_parts(
 // ---- a bracket
 
 // The head of bracket k.
-fn store_head(sheet: &Sheet, k: usize, bytes: &mut [u8])
+fn store_head(sheet: &Sheet, k: usize, bytes: &mut Bytes)
     requires { HeadGoesIn sheet.now.heads k bytes.old }
     ensures { bytes.new ≡ sets bytes.old (row_at k) (head_from sheet.now.heads k) }
 {
@@ -233,7 +233,7 @@ fn store_head(sheet: &Sheet, k: usize, bytes: &mut [u8])
 }
 
 // The n places that stand in the line from `at` on, as those of bracket k: how many, and the site of each.
-fn store_places(line: &[u8], at: usize, n: usize, k: usize, bytes: &mut [u8])
+fn store_places(line: &[u8], at: usize, n: usize, k: usize, bytes: &mut Bytes)
     requires { (ps : List (Place ℕ)) × PlacesFit line.now at n k ps bytes.old }
     ensures { (ps : List (Place ℕ)) → PlacesFit line.now at n k ps bytes.old → bytes.new ≡ sets bytes.old (places_at k) (places_put ps) }
 {
@@ -254,8 +254,8 @@ fn store_bracket(
     sheet: &Sheet,
     k: usize,
     t: usize,
-    bytes: &mut [u8],
-    numbers: &mut [i64],
+    bytes: &mut Bytes,
+    numbers: &mut Numbers,
 ) -> usize
     requires { SomeBracketFits line.now sheet.now.heads sheet.now.parts sheet.now.masses sheet.now.scores k t bytes.old numbers.old }
     ensures { (b : Bracket ℕ) (a : Pieces) → BracketGoesIn line.now sheet.now.heads sheet.now.parts sheet.now.masses sheet.now.scores k t b a bytes.old numbers.old → BracketPut k t b a result bytes.new numbers.new }
@@ -272,7 +272,7 @@ fn store_bracket(
 }
 
 // The first n brackets, one behind another.
-fn store_brackets(line: &[u8], sheet: &Sheet, n: usize, bytes: &mut [u8], numbers: &mut [i64])
+fn store_brackets(line: &[u8], sheet: &Sheet, n: usize, bytes: &mut Bytes, numbers: &mut Numbers)
     requires { SomeBracketsFit line.now sheet.now.heads sheet.now.parts sheet.now.masses sheet.now.scores n bytes.old numbers.old }
     ensures { (ks : List (Bracket ℕ)) (a : Pieces) → BracketsFit line.now sheet.now.heads sheet.now.parts sheet.now.masses sheet.now.scores n ks a bytes.old numbers.old → BracketsPut ks a bytes.new numbers.new }
 {
@@ -287,7 +287,7 @@ fn store_brackets(line: &[u8], sheet: &Sheet, n: usize, bytes: &mut [u8], number
 // ---- a line
 
 // The numbers of residues and brackets, the letters and the sections.
-fn store_front(sheet: &Sheet, residues: usize, brackets: usize, bytes: &mut [u8])
+fn store_front(sheet: &Sheet, residues: usize, brackets: usize, bytes: &mut Bytes)
     requires { FrontFits sheet.now.letters sheet.now.sections residues brackets bytes.old }
     ensures { bytes.new ≡ front_put sheet.now.letters sheet.now.sections residues brackets bytes.old }
 {
@@ -302,8 +302,8 @@ pub fn store(
     sheet: &Sheet,
     residues: usize,
     brackets: usize,
-    bytes: &mut [u8],
-    numbers: &mut [i64],
+    bytes: &mut Bytes,
+    numbers: &mut Numbers,
 )
     requires { Fills line.now sheet.now residues brackets bytes.old numbers.old }
     ensures { (l : Line ℕ) → outcome line.now ≡ accepted l → FilledAll bytes.old numbers.old bytes.new numbers.new l }

@@ -1,4 +1,3 @@
-pub mod Tags
 pub mod Through
 pub mod Saying
 pub mod Texts

@@ -129,10 +129,7 @@ fn signed_at(line: &[u8], at: usize) -> bool
 fn mass_behind(line: &[u8], form: Form, at: usize) -> bool
     ensures { result ≡ (takes_mass form && is_sign (get_or line.now at 0)) }
 {
-    match form {
-        Form::MassOrName | Form::MassOnly => signed_at(line, at),
-        Form::Digits | Form::Alnums | Form::Free | Form::Composed => false,
-    }
+    matches!(form, Form::MassOrName | Form::MassOnly) && signed_at(line, at)
 }
 
 // Behind a key and its colon.
@@ -175,9 +172,10 @@ fn name_at(line: &[u8], at: usize, end: usize) -> Result<Value, Stuck>
         return Err(Stuck { at: end });
     }
     if line[end] == b']' {
-        return text_of(Key::NoKey, at, end, None);
+        text_of(Key::NoKey, at, end, None)
+    } else {
+        text_from(line, Key::NoKey, at, end, false)
     }
-    text_from(line, Key::NoKey, at, end, false)
 }
 
 // A value that begins with no sign and no `#`.
@@ -186,10 +184,9 @@ fn word_at(line: &[u8], at: usize) -> Result<Value, Stuck>
     ensures { is_sign (get_or line.now at 0) ≡ false → (get_or line.now at 0 ≡ hash → ⊥) → SaysFrom line.now at at (λ c. inner_step at (begin c)) result }
 {
     let end = classes::plain_end(line, at);
-    let key = key_before(line, at, end);
-    match key {
+    match key_before(line, at, end) {
         Key::NoKey => name_at(line, at, end),
-        _ => behind_key(line, key, end + 1),
+        key => behind_key(line, key, end + 1),
     }
 }
 
@@ -217,10 +214,10 @@ pub fn value_at(line: &[u8], at: usize, refers: bool) -> Result<Value, Stuck>
     }
     let b = line[at];
     if classes::is_sign(b) {
-        return mass_at(line, Key::NoKey, at);
+        mass_at(line, Key::NoKey, at)
+    } else if b == b'#' {
+        reference_at(at, refers)
+    } else {
+        word_at(line, at)
     }
-    if b == b'#' {
-        return reference_at(at, refers);
-    }
-    word_at(line, at)
 }

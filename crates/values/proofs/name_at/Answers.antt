@@ -17,5 +17,5 @@ returns-then-line-end-eq93 c =
     λ e k.
     name_shut _ _ _ _ c.if-line-end-eq93.true _ (c.text_of.ensures c.args.line.now c.args.at (no_key_behind c.args.at) c.requires k (none_deep is_plain plain_quiet _ _ _ (run_upto is_plain _ _ _ e)))
 
-pub returns : goal.returns
-returns c = λ e k. c.text_from.ensures c.args.at refl (no_key_behind c.args.at) (run_upto is_plain _ _ _ e)
+pub returns-else-line-end-eq93 : goal.returns-else-line-end-eq93
+returns-else-line-end-eq93 c = λ e k. c.text_from.ensures c.args.at refl (no_key_behind c.args.at) (run_upto is_plain _ _ _ e)

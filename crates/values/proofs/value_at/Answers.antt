@@ -18,5 +18,5 @@ returns-then-is_sign c =
 pub returns-then-b-eq35 : goal.returns-then-b-eq35
 returns-then-b-eq35 c = λ k. c.reference_at.ensures _ c.if-line-at.false c.if-b-eq35.true
 
-pub returns : goal.returns
-returns c = λ k. begins _ _ _ _ (c.word_at.ensures (sym c.is_sign.ensures ∙ c.if-is_sign.false) c.if-b-eq35.false)
+pub returns-else-b-eq35 : goal.returns-else-b-eq35
+returns-else-b-eq35 c = λ k. begins _ _ _ _ (c.word_at.ensures (sym c.is_sign.ensures ∙ c.if-is_sign.false) c.if-b-eq35.false)

@@ -3,12 +3,18 @@ use mathlib.Core.Path.{◌≡◌, refl, sym, ap, ◌∙◌}
 use mathlib.Core.Bool.{Bool, true, false}
 use mathlib.Core.Option.{Option, none, some}
 use mathlib.Core.List.{List, [], ◌∷◌, map}
-use Prim.Native.Nat.{ℕ, ◌-◌, min}
+use Prim.Native.Nat.{ℕ, ◌+◌, min}
 use native.Mathlib.Omega.{arith}
+use Rattle.std.specs.Prelude.{Option as Perhaps, Some, None}
 use Rattle.scope.specs.Lists.{given}
 use Rattle.scope.specs.Refusals.{least, due_at}
 use Rattle.values.specs.Says.{coded}
 use Rattle.dues.specs.Ranks.{code, lowest}
+
+-- 0 for no place, else one more than it
+abbrev counted : Perhaps ℕ → ℕ
+counted None = 0
+counted (Some i) = i + 1
 
 module _ (n rank : ℕ) where
   pub taken : (place : ℕ) {r : ℕ} {so : Bool} → so ≡ true → r ≡ min (code rank place) n → r ≡ lowest n (map (code rank) (due_at so place))
@@ -29,16 +35,16 @@ module _ (n rank : ℕ) where
       go none = refl
       go (some p) = omega arith
 
-  pub no_place : (ps : List ℕ) {d : ℕ} → d ≡ 0 → d ≡ coded (least ps) → n ≡ lowest n (map (code rank) ps)
+  pub no_place : (ps : List ℕ) {d : Perhaps ℕ} → d ≡ None → d ≡ coded (least ps) → n ≡ lowest n (map (code rank) ps)
   no_place ps z e = go (least ps) (sym z ∙ e) ∙ sym (first_place ps)
     where
-      go : (o : Option ℕ) → 0 ≡ coded o → n ≡ given o (λ p. min (code rank p) n) n
+      go : (o : Option ℕ) → None ≡ coded o → n ≡ given o (λ p. min (code rank p) n) n
       go none q = refl
-      go (some p) q = absurd (omega arith)
+      go (some p) q = absurd (let f = ap counted q in omega arith)
 
-  pub a_place : (ps : List ℕ) {d r : ℕ} → (d ≡ 0 → ⊥) → d ≡ coded (least ps) → r ≡ min (code rank (d - 1)) n → r ≡ lowest n (map (code rank) ps)
-  a_place ps {d = d} {r = r} z e p = go (least ps) e ∙ sym (first_place ps)
+  pub a_place : (ps : List ℕ) (i : ℕ) {d : Perhaps ℕ} {r : ℕ} → d ≡ Some i → d ≡ coded (least ps) → r ≡ min (code rank i) n → r ≡ lowest n (map (code rank) ps)
+  a_place ps i {r = r} z e p = go (least ps) (sym z ∙ e) ∙ sym (first_place ps)
     where
-      go : (o : Option ℕ) → d ≡ coded o → r ≡ given o (λ p. min (code rank p) n) n
-      go none q = absurd (z q)
-      go (some i) q = let h : d - 1 ≡ i = omega arith in p ∙ ap (λ x. min (code rank x) n) h
+      go : (o : Option ℕ) → Some i ≡ coded o → r ≡ given o (λ p. min (code rank p) n) n
+      go none q = absurd (let f = ap counted q in omega arith)
+      go (some j) q = let f = ap counted q in let h : i ≡ j = omega arith in p ∙ ap (λ x. min (code rank x) n) h

@@ -5,15 +5,17 @@ use mathlib.Core.Option.{Option, none, some}
 use mathlib.Core.List.{List, [], ◌++◌, map, append-nil}
 use Prim.Native.Nat.{ℕ, ◌+◌, ◌-◌, ◌<◌, ◌≤◌, min}
 use native.Mathlib.Omega.{arith}
+use Rattle.basics.specs.Choice.{by_test}
 use lib.Dec.{eqb, ltb}
 use lib.ListN.{length}
 use borrow.Author.Tests.{eq-eqb, ne_eqb, eqb-false, le-leb, lt-leb}
-use Rattle.scope.specs.declared.grammar.Key.TheVariants.{R, Formula, Glycan}
+use mathlib.Core.Logic.{◌⊎◌, inl, inr}
+use Rattle.scope.specs.declared.grammar.Key.TheVariants.{NoKey, U, M, R, X, G, C, Obs, Unimod, Mod, Xlmod, Resid, Gno, Info, Formula, Glycan, Position, Limit}
 use Rattle.scope.specs.Bytes.{is_digit, same_folded}
 use Rattle.scope.specs.Glycans.{cuttings, cuttings_up_to}
 use Rattle.scope.specs.Keys.{key_code, written}
 use Rattle.scope.specs.Limits.{text_limit}
-use Rattle.scope.specs.Layout.{mass_code, text_code}
+use Rattle.std.specs.Prelude.{Option as Perhaps, Some, None}
 use Rattle.scope.specs.Line.{Value as Written, mass, text, reference, composition, Part}
 use Rattle.scope.specs.Lists.{part, none?, all}
 use Rattle.scope.specs.Refusals.{due_at, least, text_in, text_of, is_rule_name, too_deep, in_range, wide_mass}
@@ -21,7 +23,12 @@ use Rattle.reading_laws.proofs.Inside.{under_least, under_deep}
 use Rattle.glycans.specs.Cut.{CutIs}
 use Rattle.glycans.specs.Kept.{is_uncut_lem}
 use Rattle.values.specs.declared.Value.{Value}
-use Rattle.values.specs.Says.{wide_code, code_of, from_of, coded, EndsAt, IsValue}
+use Rattle.values.specs.Says.{body_of, body_code, from_of, coded, EndsAt, IsValue}
+use Rattle.values.specs.declared.Body.{Body}
+use Rattle.values.specs.declared.Body.TheVariants.{Mass, Text, Reference}
+use Rattle.dues.specs.Found.{PlaceFits, wide_body}
+use Rattle.scope.specs.Bytes.{wide_limit}
+use Rattle.scope.specs.declared.grammar.Key.{Key}
 use Rattle.sheet.specs.Rows.{text_to, AsRead}
 use Rattle.dues.specs.Ranks.{code, lowest}
 use Rattle.dues.specs.First.{lowest_append}
@@ -56,6 +63,37 @@ module _ (m k i : ℕ) (t : List ℕ) where
   name_barred h z =
       rw (le-leb (key_code Formula) k h, ne_eqb k (key_code Glycan) z, ne_eqb k 1 (λ e. absurd (omega arith)), ne_eqb k 2 (λ e. absurd (omega arith)))
 
+-- ---- the code of a key, by what the key is
+pub number_key : {k : Key} → (k ≡ U) ⊎ (k ≡ M) → (key_code k ≡ 0 → ⊥) × (key_code k < key_code R)
+number_key (inl e) = let z = ap key_code e in (λ q. absurd (omega arith), omega arith)
+number_key (inr e) = let z = ap key_code e in (λ q. absurd (omega arith), omega arith)
+
+pub barred_name : {k : Key} → (k ≡ Formula) ⊎ ((k ≡ Position) ⊎ (k ≡ Limit)) → (key_code Formula ≤ key_code k) × (key_code k ≡ key_code Glycan → ⊥)
+barred_name (inl e) = let z = ap key_code e in (omega arith, λ q. absurd (omega arith))
+barred_name (inr (inl e)) = let z = ap key_code e in (omega arith, λ q. absurd (omega arith))
+barred_name (inr (inr e)) = let z = ap key_code e in (omega arith, λ q. absurd (omega arith))
+
+pub other_key : (k : Key) → (k ≡ NoKey → ⊥) → (k ≡ U → ⊥) → (k ≡ M → ⊥) → (k ≡ Formula → ⊥) → (k ≡ Glycan → ⊥) → (k ≡ Position → ⊥) → (k ≡ Limit → ⊥)
+    → (key_code R ≤ key_code k) × (key_code k < key_code Formula)
+other_key NoKey a b c d e f g = absurd (a refl)
+other_key U a b c d e f g = absurd (b refl)
+other_key M a b c d e f g = absurd (c refl)
+other_key R a b c d e f g = (omega arith, omega arith)
+other_key X a b c d e f g = (omega arith, omega arith)
+other_key G a b c d e f g = (omega arith, omega arith)
+other_key C a b c d e f g = (omega arith, omega arith)
+other_key Obs a b c d e f g = (omega arith, omega arith)
+other_key Unimod a b c d e f g = (omega arith, omega arith)
+other_key Mod a b c d e f g = (omega arith, omega arith)
+other_key Xlmod a b c d e f g = (omega arith, omega arith)
+other_key Resid a b c d e f g = (omega arith, omega arith)
+other_key Gno a b c d e f g = (omega arith, omega arith)
+other_key Info a b c d e f g = (omega arith, omega arith)
+other_key Formula a b c d e f g = absurd (d refl)
+other_key Glycan a b c d e f g = absurd (e refl)
+other_key Position a b c d e f g = absurd (f refl)
+other_key Limit a b c d e f g = absurd (g refl)
+
 -- there is a way to cut nothing
 nothing_cut : none? (cuttings []) ≡ false
 unfolding cuttings cuttings_up_to
@@ -68,38 +106,41 @@ no_text k i a =
     rw (and-false (eqb k 0), and-false (eqb k 1 || eqb k 2), nothing_cut, and-false (eqb k (key_code Glycan)), or-false (barred_key k))
     (append-nil (key_codes k i ++ []) ∙ append-nil (key_codes k i))
 
--- ---- only a text has the code of a text
-is_text : (w : Written ℕ) → code_of w ≡ text_code → text (text_in w) ≡ w
-is_text (mass n) e = absurd (go (in_range n) e)
-  where
-    go : (b : Bool) → ◌≡◌ {A = ℕ} (cond b mass_code wide_code) text_code → ⊥
-    go true q = omega arith
-    go false q = omega arith
-is_text (text t) e = refl
-is_text reference e = absurd (omega arith)
-is_text (composition t n) e = absurd (omega arith)
+-- ---- only a text has the body of a text
+is_text : (q : Part ℕ) (w : Written ℕ) (d : Perhaps ℕ) → AsRead w → body_of q w ≡ Text d → text (text_in w) ≡ w
+is_text q (mass n) d r e = absurd (let z = ap body_code e in omega arith)
+is_text q (text t) d r e = refl
+is_text q reference d r e = absurd (let z = ap body_code e in omega arith)
+is_text q (composition t n) d r e = absurd r
 
--- and only a mass out of range its own
-wide_is : (q : Part ℕ) (w : Written ℕ) → due_at (eqb (code_of w) wide_code) (from_of q w) ≡ wide_mass w
-wide_is q (mass n) = go (in_range n)
-  where
-    go : (b : Bool) → due_at (eqb (cond b mass_code wide_code) wide_code) n.at ≡ due_at (not b) n.at
-    go true = refl
-    go false = refl
+abbrev deep_in : Body → Perhaps ℕ
+deep_in (Mass n) = None
+deep_in (Text d) = d
+deep_in Reference = None
+
+deep_is : (q : Part ℕ) (w : Written ℕ) (d : Perhaps ℕ) → body_of q w ≡ Text d → text (text_in w) ≡ w → d ≡ coded (least (too_deep 0 (q.at + length (written q.key)) (text_of q)))
+deep_is q (mass n) d e f = absurd (let z = ap body_code e in omega arith)
+deep_is q (text t) d e f = sym (ap deep_in e)
+deep_is q reference d e f = absurd (let z = ap body_code e in omega arith)
+deep_is q (composition t n) d e f = sym (ap deep_in e)
+
+-- and only a mass out of range is wide
+wide_is : (q : Part ℕ) (w : Written ℕ) → due_at (wide_body (body_of q w)) (from_of q w) ≡ wide_mass w
+wide_is q (mass n) = by_test (in_range n) (λ t. rw t refl) (λ t. rw t refl)
 wide_is q (text t) = refl
 wide_is q reference = refl
 wide_is q (composition t n) = refl
 
 -- what was read has a text only where it is a text
-textless : (w : Written ℕ) → AsRead w → (code_of w ≡ text_code → ⊥) → text_in w ≡ []
-textless (mass n) r h = refl
-textless (text t) r h = absurd (h refl)
-textless reference r h = refl
-textless (composition t n) r h = absurd r
+textless : (q : Part ℕ) (w : Written ℕ) → AsRead w → ((d : Perhaps ℕ) → body_of q w ≡ Text d → ⊥) → text_in w ≡ []
+textless q (mass n) r h = refl
+textless q (text t) r h = absurd (h _ refl)
+textless q reference r h = refl
+textless q (composition t n) r h = absurd r
 
-coded_small : (n : ℕ) (o : Option ℕ) → ((i : ℕ) → o ≡ some i → i < n) → coded o ≤ n
-coded_small n none h = omega arith
-coded_small n (some i) h = let l = h i refl in omega arith
+coded_small : (n : ℕ) (o : Option ℕ) → ((i : ℕ) → o ≡ some i → i < n) → n ≤ wide_limit → PlaceFits (coded o)
+coded_small n none h r = tt
+coded_small n (some i) h r = let l = h i refl in omega arith
 
 -- ---- a value that was found
 pub record TextFound (line : List ℕ) (v : Value) (q : Part ℕ) : Type 0 where
@@ -109,22 +150,21 @@ pub record TextFound (line : List ℕ) (v : Value) (q : Part ℕ) : Type 0 where
   pub inside : v.to ≤ length line
   pub text_is : part v.from (v.to - v.from) line ≡ text_of q
   pub long : v.to - v.from ≡ length (text_of q)
-  pub deep : v.deep ≡ coded (least (too_deep 0 (q.at + length (written q.key)) (text_of q)))
-  pub deep_inside : v.deep ≤ length line
   pub massless : wide_mass q.value ≡ []
 
 module _ (line : List ℕ) (at : ℕ) (v : Value) (q : Part ℕ) (g : IsValue line at v q) where
-  code_is : v.code ≡ code_of q.value
-  code_is = ap (λ x. x.code) g.is
+  body_is : v.body ≡ body_of q q.value
+  body_is = ap (λ x. x.body) g.is
 
-  pub text_found : v.code ≡ text_code → TextFound line v q
-  text_found h =
-      let e : text (text_of q) ≡ q.value = is_text q.value (sym code_is ∙ h) in
+  pub deep_told : (d : Perhaps ℕ) → v.body ≡ Text d → d ≡ coded (least (too_deep 0 (q.at + length (written q.key)) (text_of q)))
+  deep_told d h = deep_is q q.value d (sym body_is ∙ h) (is_text q q.value d g.stands.as_read (sym body_is ∙ h))
+
+  pub text_found : (d : Perhaps ℕ) → v.body ≡ Text d → TextFound line v q
+  text_found d h =
+      let e : text (text_of q) ≡ q.value = is_text q q.value d g.stands.as_read (sym body_is ∙ h) in
       let f : v.from ≡ q.at + length (written q.key) = ap (λ x. x.from) g.is ∙ ap (from_of q) (sym e) in
       let to : v.to ≡ q.at + length (written q.key) + length (text_of q) = subst (EndsAt q v.to) (sym e) g.ends ∙ ap (text_to q) (sym e) in
-      let d : v.deep ≡ coded (least (too_deep 0 (q.at + length (written q.key)) (text_of q))) = ap (λ x. x.deep) g.is in
       let m : v.to - v.from ≡ length (text_of q) = omega arith in
-      let room : q.at + length (written q.key) + length (text_of q) ≤ length line = omega (arith, g.within) in
       record {
         key = ap (λ x. key_code x.key) g.is;
         from = f;
@@ -132,12 +172,15 @@ module _ (line : List ℕ) (at : ℕ) (v : Value) (q : Part ℕ) (g : IsValue li
         inside = g.within;
         text_is = rw (m, f) (sym g.stands.text_is);
         long = m;
-        deep = d;
-        deep_inside =
-            subst (λ x. x ≤ length line) (sym d)
-            (coded_small (length line) _ (λ i p. under_least (length line) _ i (under_deep (length line) 0 (q.at + length (written q.key)) (text_of q) room) p));
         massless = ap wide_mass (sym e);
       }
+
+  pub deep_fits : (d : Perhaps ℕ) → v.body ≡ Text d → length line ≤ wide_limit → PlaceFits d
+  deep_fits d h r =
+      let f = text_found d h in
+      let room : q.at + length (written q.key) + length (text_of q) ≤ length line = omega (arith, f.from, f.long, f.ordered, f.inside) in
+      subst PlaceFits (sym (deep_told d h))
+      (coded_small (length line) _ (λ i p. under_least (length line) _ i (under_deep (length line) 0 (q.at + length (written q.key)) (text_of q) room) p) r)
 
   abbrev key_of : ℕ
   key_of = key_code q.key
@@ -145,13 +188,15 @@ module _ (line : List ℕ) (at : ℕ) (v : Value) (q : Part ℕ) (g : IsValue li
   abbrev behind : ℕ
   behind = q.at + length (written q.key)
 
-  -- ---- of its text, where a is the lowest with what is too deep, b with what is too long, and k the code of its key
-  module _ (h : v.code ≡ text_code) (n : ℕ) {a b k : ℕ}
-      (deep : (ps : List ℕ) → v.deep ≡ coded (least ps) → a ≡ lowest n (map (code deep_rank) ps))
-      (over : b ≡ lowest a (map (code over_rank) (due_at (ltb text_limit (v.to - v.from)) at)))
-      (key : k ≡ key_code v.key) where
+  -- ---- of its text, where a is the lowest with what is too deep, b with what is too long
+  module _ (d : Perhaps ℕ) (h : v.body ≡ Text d) (n : ℕ) {a b : ℕ}
+      (deep : (ps : List ℕ) → d ≡ coded (least ps) → a ≡ lowest n (map (code deep_rank) ps))
+      (over : b ≡ lowest a (map (code over_rank) (due_at (ltb text_limit (v.to - v.from)) at))) where
     found : TextFound line v q
-    found = text_found h
+    found = text_found d h
+
+    abbrev k : ℕ
+    k = key_code v.key
 
     abbrev names : List ℕ
     names = name_codes key_of q.at (text_of q)
@@ -164,12 +209,12 @@ module _ (line : List ℕ) (at : ℕ) (v : Value) (q : Part ℕ) (g : IsValue li
         ap (λ x. lowest x names)
         (over
         ∙ ap₂ (λ x y. lowest a (map (code over_rank) (due_at (ltb text_limit x) y))) found.long (sym g.place)
-        ∙ ap (λ x. lowest x over_codes) (deep (too_deep 0 behind (text_of q)) found.deep)
+        ∙ ap (λ x. lowest x over_codes) (deep (too_deep 0 behind (text_of q)) (deep_told d h))
         ∙ sym (lowest_append n over_codes (map (code deep_rank) (too_deep 0 behind (text_of q)))))
         ∙ sym (lowest_append n names (over_codes ++ map (code deep_rank) (too_deep 0 behind (text_of q))))
 
     here : lowest b (name_codes k at (part v.from (v.to - v.from) line)) ≡ lowest n (text_codes key_of q.at behind (text_of q))
-    here = rw (found.text_is, sym g.place, key ∙ found.key) so_far
+    here = rw (found.text_is, sym g.place, found.key) so_far
 
     pub due_rule : {r : ℕ} {x : Bool} → k ≡ 0 → x ≡ is_rule_name (part v.from (v.to - v.from) line) → r ≡ lowest b (map (code barred_rank) (due_at x at))
         → r ≡ lowest n (text_codes key_of q.at behind (text_of q))
@@ -192,22 +237,22 @@ module _ (line : List ℕ) (at : ℕ) (v : Value) (q : Part ℕ) (g : IsValue li
     due_barred f z w = w ∙ name_barred b k at _ f z ∙ here
 
   -- ---- with a text, what is due of the key and the text; else of the key, of which a is the lowest, and of the mass
-  pub with_text : v.code ≡ text_code → (n : ℕ) {r : ℕ} → r ≡ lowest n (text_codes key_of q.at behind (text_of q)) → r ≡ lowest n (part_codes q)
-  with_text h n w =
+  pub with_text : (d : Perhaps ℕ) → v.body ≡ Text d → (n : ℕ) {r : ℕ} → r ≡ lowest n (text_codes key_of q.at behind (text_of q)) → r ≡ lowest n (part_codes q)
+  with_text d h n w =
       w
-      ∙ ap (λ x. lowest n (map (code wide_rank) x ++ text_codes key_of q.at behind (text_of q))) (sym (text_found h).massless)
+      ∙ ap (λ x. lowest n (map (code wide_rank) x ++ text_codes key_of q.at behind (text_of q))) (sym (text_found d h).massless)
       ∙ of_value n q g.bare
 
-  pub without_text : (v.code ≡ text_code → ⊥) → (n : ℕ) {a k r : ℕ} → k ≡ key_code v.key → a ≡ lowest n (map (code barred_rank) (due_at (barred_key k) at))
-      → r ≡ lowest a (map (code wide_rank) (due_at (eqb v.code wide_code) v.from)) → r ≡ lowest n (part_codes q)
-  without_text h n {a = a} key barred w =
-      let none : text_of q ≡ [] = textless q.value g.stands.as_read (λ e. h (code_is ∙ e)) in
+  pub without_text : ((d : Perhaps ℕ) → v.body ≡ Text d → ⊥) → (n : ℕ) {a r : ℕ} {x y : Bool} → x ≡ barred_key (key_code v.key) → a ≡ lowest n (map (code barred_rank) (due_at x at))
+      → y ≡ wide_body v.body → r ≡ lowest a (map (code wide_rank) (due_at y v.from)) → r ≡ lowest n (part_codes q)
+  without_text h n {a = a} key barred wide w =
+      let none : text_of q ≡ [] = textless q q.value g.stands.as_read (λ d e. h d (body_is ∙ e)) in
       let masses : List ℕ = map (code wide_rank) (wide_mass q.value) in
       let keys : List ℕ = key_codes key_of q.at in
       w
       ∙ ap₂ (λ x y. lowest x (map (code wide_rank) y))
-      (barred ∙ ap₂ (λ x y. lowest n (key_codes x y)) (key ∙ ap (λ x. key_code x.key) g.is) (sym g.place))
-      (ap₂ (λ x y. due_at (eqb x wide_code) y) code_is (ap (λ x. x.from) g.is) ∙ wide_is q q.value)
+      (barred ∙ ap₂ (λ x y. lowest n (map (code barred_rank) (due_at x y))) (key ∙ ap (λ x. barred_key (key_code x.key)) g.is) (sym g.place))
+      (ap₂ (λ x y. due_at x y) (wide ∙ ap wide_body body_is) (ap (λ x. x.from) g.is) ∙ wide_is q q.value)
       ∙ sym (lowest_append n masses keys)
       ∙ ap (λ x. lowest n (masses ++ x)) (sym (ap (text_codes key_of q.at behind) none ∙ no_text key_of q.at behind))
       ∙ of_value n q g.bare

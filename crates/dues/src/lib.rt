@@ -4,7 +4,6 @@
 ghost use Rattle.std.specs.Prelude.{◌≡◌, not, ◌&&◌, List, map, ℕ, min, ◌+◌, ◌-◌, ◌/◌, ◌%◌, ◌<◌, ◌≤◌, length};
 ghost use Rattle.scope.specs.Bytes.{wide_limit, is_digit};
 ghost use Rattle.scope.specs.Keys.{key_code, written};
-ghost use Rattle.scope.specs.Layout.{text_code};
 ghost use Rattle.scope.specs.Line.{Line, Part, Label as Written};
 ghost use Rattle.scope.specs.Lists.{none?, all, part};
 ghost use Rattle.scope.specs.Refusals.{due_at, least as first, line_refusals, text_of};
@@ -12,12 +11,13 @@ ghost use Rattle.values.specs.Says.{IsValue, coded};
 ghost use Rattle.labels.specs.Says.{IsLabel};
 ghost use Rattle.dues.specs.Ranks.{code, lowest, no_code, number_at};
 ghost use Rattle.dues.specs.Lines.{part_codes, label_codes};
-ghost use Rattle.dues.specs.Steps.{text_codes};
-ghost use Rattle.dues.specs.Found.{ValueFound, LabelFound};
+ghost use Rattle.dues.specs.Steps.{barred_key, text_codes};
+ghost use Rattle.dues.specs.Found.{PlaceFits, wide_body, wide_score, ValueFound, LabelFound};
 
-use labels::Label;
+use labels::{Label, Score};
+use scope::grammar::Key;
 use scope::tables::Tables;
-use values::Value;
+use values::{Body, Value};
 
 // how many places there are for each rank
 const PLACES: usize = 65536;
@@ -59,11 +59,7 @@ pub fn due(least: usize, rank: usize, place: usize) -> usize
     requires { (rank < wide_limit) × (place < wide_limit) }
     ensures { result ≡ min (code rank place) least }
 {
-    let c = rank * PLACES + place;
-    if c < least {
-        return c;
-    }
-    least
+    least.min(rank * PLACES + place)
 }
 
 // The same, where it is due there.
@@ -71,21 +67,18 @@ pub fn due_if(least: usize, so: bool, rank: usize, place: usize) -> usize
     requires { (rank < wide_limit) × (place < wide_limit) }
     ensures { result ≡ lowest least (map (code rank) (due_at so place)) }
 {
-    if so {
-        return due(least, rank, place);
-    }
-    least
+    if so { due(least, rank, place) } else { least }
 }
 
-// The same, with the first of some places of a rank: `place` is 0 where there is none, else one more than it.
-pub fn first_due(least: usize, rank: usize, place: usize) -> usize
-    requires { (rank < wide_limit) × (place < wide_limit) }
+// The same, with the first of some places of a rank, if there is one.
+pub fn first_due(least: usize, rank: usize, place: Option<usize>) -> usize
+    requires { (rank < wide_limit) × PlaceFits place }
     ensures { (ps : List ℕ) → place ≡ coded (first ps) → result ≡ lowest least (map (code rank) ps) }
 {
-    if place == 0 {
-        return least;
+    match place {
+        None => least,
+        Some(place) => due(least, rank, place),
     }
-    due(least, rank, place - 1)
 }
 
 // The number of the refusal that a code is due for.
@@ -103,53 +96,48 @@ pub fn place_of(c: usize) -> usize
     c % PLACES
 }
 
-// the codes of keys: none; R, the first behind U and M; Formula, from which on keys are barred, but for Glycan
-const NO_KEY: u8 = 0;
-
-const R: u8 = 3;
-
-const FORMULA: u8 = 14;
-
-const GLYCAN: u8 = 15;
+// Whether a part with this key is barred, whatever stands behind the key.
+fn is_barred(key: Key) -> bool
+    ensures { result ≡ barred_key (key_code key) }
+{
+    matches!(key, Key::Formula | Key::Position | Key::Limit)
+}
 
 // With what is due of a value: of the key and the mass or text of the part at `at`.
 pub fn value_due(line: &[u8], least: usize, at: usize, v: Value) -> usize
     requires { ValueFound line.now at v }
     ensures { (q : Part ℕ) → IsValue line.now at v q → result ≡ lowest least (part_codes q) }
 {
-    if v.code == Value::TEXT {
-        return text_due(line, least, at, v);
+    if let Body::Text { deep } = v.body {
+        return text_due(line, least, at, v, deep);
     }
-    let key = v.key;
-    let code = words::key_code(key);
-    let a = due_if(least, (FORMULA <= code) & (code != GLYCAN), BARRED, at);
-    due_if(a, v.code == Value::WIDE, WIDE, v.from)
+    let a = due_if(least, is_barred(v.key), BARRED, at);
+    due_if(a, is_wide(v.body), WIDE, v.from)
+}
+
+// Whether it is a mass that is out of range.
+fn is_wide(body: Body) -> bool
+    ensures { result ≡ wide_body body }
+{
+    matches!(body, Body::Mass(None))
 }
 
 // Of the key and the text.
-fn text_due(line: &[u8], least: usize, at: usize, v: Value) -> usize
-    requires { ValueFound line.now at v × (v.code ≡ text_code) }
+fn text_due(line: &[u8], least: usize, at: usize, v: Value, deep: Option<usize>) -> usize
+    requires { ValueFound line.now at v × (v.body ≡ Body.Text deep) }
     ensures { (q : Part ℕ) → IsValue line.now at v q → result ≡ lowest least (text_codes (key_code q.key) q.at (q.at + length (written q.key)) (text_of q)) }
 {
-    let key = v.key;
     let from = v.from;
     let to = v.to;
-    let a = first_due(least, DEEP, v.deep);
+    let a = first_due(least, DEEP, deep);
     let b = due_if(a, Tables::TEXT < to - from, OVER, at);
-    let code = words::key_code(key);
-    if code == NO_KEY {
-        return due_if(b, words::is_rule(line, from, to), BARRED, at);
+    match v.key {
+        Key::NoKey => due_if(b, words::is_rule(line, from, to), BARRED, at),
+        Key::U | Key::M => due_if(b, is_number(line, from, to), DIGITS, at),
+        Key::Glycan => due_if(b, !glycans::cut(line, from, to).cut, UNCUT, at),
+        Key::Formula | Key::Position | Key::Limit => due(b, BARRED, at),
+        _ => b,
     }
-    if code < R {
-        return due_if(b, is_number(line, from, to), DIGITS, at);
-    }
-    if code < FORMULA {
-        return b;
-    }
-    if code == GLYCAN {
-        return due_if(b, !glycans::cut(line, from, to).cut, UNCUT, at);
-    }
-    due(b, BARRED, at)
 }
 
 // Whether digits only, and some, stand from `from` to `to`.
@@ -157,10 +145,14 @@ fn is_number(line: &[u8], from: usize, to: usize) -> bool
     requires { (from ≤ to) × (to ≤ length line.now) }
     ensures { result ≡ (not (none? (part from (to - from) line.now)) && all is_digit (part from (to - from) line.now)) }
 {
-    if from == to {
-        return false;
-    }
-    to <= classes::digit_end(line, from)
+    from != to && to <= classes::digit_end(line, from)
+}
+
+// Whether it is a score that is out of range.
+fn is_wide_score(score: Option<Score>) -> bool
+    ensures { result ≡ wide_score score }
+{
+    matches!(score, Some(Score { number: None }))
 }
 
 // With what is due of a label, of the part at `at`.
@@ -171,6 +163,6 @@ pub fn label_due(line: &[u8], least: usize, at: usize, label: Label) -> usize
     let from = label.from;
     let to = label.to;
     let a = due_if(least, words::is_link(line, from, to), BARRED, at);
-    let b = due_if(a, label.score == Label::WIDE, WIDE, to + 1);
+    let b = due_if(a, is_wide_score(label.score), WIDE, to + 1);
     due_if(b, Tables::LABEL < to - from, OVER, from)
 }

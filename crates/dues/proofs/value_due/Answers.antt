@@ -2,8 +2,8 @@
 use Rattle.dues.proofs.Values.{with_text, without_text}
 use Rattle.dues.proofs.value_due.Goals as goal
 
-pub returns-then-v-eq-TEXT : goal.returns-then-v-eq-TEXT
-returns-then-v-eq-TEXT c = λ q g. with_text _ _ _ q g c.if-v-eq-TEXT.true _ (c.text_due.ensures q g)
+pub returns-in-Text : goal.returns-in-Text
+returns-in-Text c = λ q g. with_text _ _ _ q g _ c.in-Text.is _ (c.text_due.ensures q g)
 
 pub returns : goal.returns
-returns c = λ q g. without_text _ _ _ q g c.if-v-eq-TEXT.false _ c.key_code-code.ensures c.due_if-a.ensures c.due_if.ensures
+returns c = λ q g. without_text _ _ _ q g c.in_default.not-Text _ c.is_barred.ensures c.due_if-a.ensures c.is_wide.ensures c.due_if.ensures

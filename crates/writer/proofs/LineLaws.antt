@@ -6,27 +6,28 @@ use Prim.Native.Nat.{ℕ, zero, suc, ◌+◌, ◌-◌, ◌*◌, ◌≤◌, ◌<�
 use native.Mathlib.Omega.{arith}
 use lib.Dec.{eqb, leb}
 use lib.IntN.{ℤ}
-use lib.ListN.{length, drop}
-use lib.Seq.{take_all}
+use native.Mathlib.Nat.{add-zero}
+use lib.ListN.{length, get_or, take, drop, length-take, length-drop}
+use lib.Seq.{take_all, take-suc, get_or-drop}
 use borrow.Author.Tests.{eq-eqb, leb-true, leb-false}
 use Rattle.basics.specs.Choice.{took, by_test}
 use Rattle.scope.specs.declared.grammar.Kind.{Kind}
 use Rattle.scope.specs.declared.grammar.Kind.TheVariants.{Unknown, Labile, NTerm, OnResidue, OnRange, CTerm, Declared}
-use Rattle.scope.specs.declared.grammar.Section.TheVariants.{Plain, RangeFirst, RangeNext, UnsureFirst, UnsureNext}
-use Rattle.scope.specs.Bytes.{question, dash}
+use Rattle.scope.specs.declared.grammar.Section.TheVariants.{Plain, RangeFirst, UnsureFirst}
+use Rattle.scope.specs.Bytes.{question, dash, shut_round}
 use Rattle.scope.specs.Limits.{residue_limit}
 use Rattle.scope.specs.Line.{Bracket, Residue}
 use Rattle.scope.specs.Canonical.{square_text, curly_text, unknown_text, ending_at, closed_by, led_by, opening, ending, is_next, goes_on, sequence_text, chain_text, canonical}
 use Rattle.scope.specs.Kinds.{is_kind}
 use Rattle.scope.specs.Lists.{keep, flat, tabled, laid}
-use Rattle.scope.specs.Layout.{section_code, section_in, residue_in, bracket_in, tables_in, brackets_field, letter_field, residues_field, section_field}
+use Rattle.scope.specs.Layout.{bytes_size, letters_at, section_code, section_in, residue_in, bracket_in, tables_in, brackets_field, letter_field, residues_field, section_field}
 use Rattle.writer.specs.declared.Shape.{Shape}
 use Rattle.writer.specs.declared.Shape.TheVariants.{Counted, Curly, Square, Angled}
-use Rattle.figures.specs.Written.{Puts, ceiling}
+use Rattle.figures.specs.Written.{stored, Puts, ceiling}
 use Rattle.writer.specs.Written.{WholeLine, residue_most, residues_most}
 use Rattle.writer.specs.Here.{RoomFor}
 use Rattle.writer.specs.Ranks.{rank_of, rank, rank_in, c_term_rank, ReadyToWrite, text_as, ranked_text, run_text, chain_front, front_text, Walks, residue_text, SpeltResidues, NoneBelow, Behind, Spells}
-use Rattle.figures.proofs.Storing.{stored_whole, puts_within, puts_length}
+use Rattle.figures.proofs.Storing.{stored_append, stored_whole, puts_stored, puts_within, puts_length}
 use Rattle.writer.proofs.RankLaws.{rank_is, rank_within, rank_tells, tabled_from, tabled_over}
 use Rattle.writer.proofs.RunLaws.{run_one, none_of}
 use Rattle.writer.proofs.Walking.{walks_of, walks_still, walks_then, walks_before, walks_up, room_after}
@@ -42,21 +43,31 @@ opening_other (suc (suc (suc zero))) p q = absurd (q refl)
 opening_other (suc (suc (suc (suc zero)))) p q = refl
 opening_other (suc (suc (suc (suc (suc c))))) p q = refl
 
-pub ending_other :
-    (c : ℕ) (t : List ℕ) → (c ≡ section_code RangeFirst → ⊥) → (c ≡ section_code RangeNext → ⊥) → (c ≡ section_code UnsureFirst → ⊥)
-    → (c ≡ section_code UnsureNext → ⊥) → [] ≡ ending (section_in c) t
-ending_other zero t p q r s = refl
-ending_other (suc zero) t p q r s = absurd (p refl)
-ending_other (suc (suc zero)) t p q r s = absurd (q refl)
-ending_other (suc (suc (suc zero))) t p q r s = absurd (r refl)
-ending_other (suc (suc (suc (suc zero)))) t p q r s = absurd (s refl)
-ending_other (suc (suc (suc (suc (suc c))))) t p q r s = refl
+pub ending_other : (c : ℕ) (t : List ℕ) → (1 ≤ c → 5 ≤ c) → [] ≡ ending (section_in c) t
+ending_other zero t h = refl
+ending_other (suc zero) t h = absurd (omega (arith, h))
+ending_other (suc (suc zero)) t h = absurd (omega (arith, h))
+ending_other (suc (suc (suc zero))) t h = absurd (omega (arith, h))
+ending_other (suc (suc (suc (suc zero)))) t h = absurd (omega (arith, h))
+ending_other (suc (suc (suc (suc (suc c))))) t h = refl
+
+-- of a range, of `(?..)`
+pub ending_range : (c : ℕ) (t : List ℕ) → 1 ≤ c → c < 3 → shut_round ∷ t ≡ ending (section_in c) t
+ending_range zero t h l = absurd (omega arith)
+ending_range (suc zero) t h l = refl
+ending_range (suc (suc zero)) t h l = refl
+ending_range (suc (suc (suc c))) t h l = absurd (omega arith)
+
+pub ending_unsure : (c : ℕ) (t : List ℕ) → 3 ≤ c → c < 5 → shut_round ∷ [] ≡ ending (section_in c) t
+ending_unsure zero t h l = absurd (omega arith)
+ending_unsure (suc zero) t h l = absurd (omega arith)
+ending_unsure (suc (suc zero)) t h l = absurd (omega arith)
+ending_unsure (suc (suc (suc zero))) t h l = refl
+ending_unsure (suc (suc (suc (suc zero)))) t h l = refl
+ending_unsure (suc (suc (suc (suc (suc c))))) t h l = absurd (omega arith)
 
 pub opening_of_lem : (c n : ℕ) → c ≡ n → opening (section_in n) ≡ opening (section_in c)
 opening_of_lem c n e = rw e
-
-pub ending_of : (c n : ℕ) (t : List ℕ) → c ≡ n → ending (section_in n) t ≡ ending (section_in c) t
-ending_of c n t e = rw e
 
 module _ (bs : List ℕ) (p n : ℕ) where
   pub goes_over : n ≤ p → false ≡ goes_on (tabled (residue_in bs) p (n - p))
@@ -204,6 +215,40 @@ module _ (bs : List ℕ) (e : ℕ) (o : List ℕ) (p at : ℕ) where
         spells = λ ns n j fits behind from first start s.
             spelt_bare bs ns n from first start (l.spells ns n j fits behind from first start s) h fits behind (sym f ∙ plain) b g;
       }
+
+-- a run of them at once
+module _ (bs : List ℕ) (size : bytes_size ≤ length bs) {e : ℕ} (few : e ≤ residue_limit) where
+  written_run : (o : List ℕ) (p at k : ℕ) → k ≤ e - p → ((i : ℕ) → p ≤ i → i < p + k → section_field bs i ≡ section_code Plain)
+      → LettersWritten bs e o p at (stored o at (take k (drop (letters_at + p) bs))) (p + k) (at + k)
+  unfolding stored
+  written_run o p at zero h plain = rw (add-zero p, add-zero at) (lettered_start bs e o p at)
+  written_run o p at (suc k) h plain =
+      let i = p + k in
+      let w = take k (drop (letters_at + p) bs) in
+      let long : length w ≡ k = omega (arith, length-take k (drop (letters_at + p) bs), length-drop (letters_at + p) bs) in
+      let within : k < length (drop (letters_at + p) bs) = omega (arith, length-drop (letters_at + p) bs) in
+      let more : take (suc k) (drop (letters_at + p) bs) ≡ w ++ (letter_field bs i ∷ []) =
+      take-suc (drop (letters_at + p) bs) k 0 within ∙ ap (λ x. w ++ (x ∷ [])) (get_or-drop (letters_at + p) bs k 0 ∙ ap (λ j. get_or bs j 0) (let z : letters_at + p + k ≡ letters_at + i = omega arith in z)) in
+      let one : Puts 1 (stored o at w) (at + k) (letter_field bs i ∷ []) (stored o at (w ++ (letter_field bs i ∷ []))) (at + k + 1) =
+      rw (stored_append o at w (letter_field bs i ∷ []), long) (puts_stored (stored o at w) (at + k) (letter_field bs i)) in
+      let x : p + suc k ≡ i + 1 = omega arith in
+      let y : at + suc k ≡ at + k + 1 = omega arith in
+      rw (more, x, y)
+      (lettered_more bs e o p at (written_run o p at k (omega arith) (λ j l g. plain j l (omega arith))) (omega arith) refl (plain i (omega arith) (omega arith)) refl one)
+
+  pub letters_written : {o : List ℕ} {p at i place : ℕ} {out : List ℕ} {m : ℕ} → p ≤ i → i ≤ p + (e - p) → ((k : ℕ) → p ≤ k → k < i → section_field bs k ≡ section_code Plain)
+      → Puts m o at (take (letters_at + i - (letters_at + p)) (drop (letters_at + p) bs)) out place
+      → (p ≤ i) × ((ns : List ℤ) (n j : ℕ) → e ≤ n → Behind bs j e → Spells bs ns n j o p at out i place)
+  letters_written {o} {p} {at} {i} {place} {out} h l plain w =
+      let k : letters_at + i - (letters_at + p) ≡ i - p = omega arith in
+      let run = written_run o p at (i - p) (omega arith) (λ j a b. plain j a (omega arith)) in
+      let x : p + (i - p) ≡ i = omega arith in
+      let t = take (letters_at + i - (letters_at + p)) (drop (letters_at + p) bs) in
+      let long : length t ≡ i - p = omega (arith, length-take (letters_at + i - (letters_at + p)) (drop (letters_at + p) bs), length-drop (letters_at + p) bs) in
+      let y : at + (i - p) ≡ place = omega (arith, w.ends, long) in
+      let z : stored o at (take (i - p) (drop (letters_at + p) bs)) ≡ out = ap (λ n. stored o at (take n (drop (letters_at + p) bs))) (sym k) ∙ sym w.holds in
+      let all : LettersWritten bs e o p at out i place = rw (x, y, z) at run in
+      (all.forth, all.spells)
 
 -- the letters whose rank is below that of bracket j stand before it
 pub letters_before :

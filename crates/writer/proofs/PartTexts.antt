@@ -2,7 +2,9 @@
 use mathlib.Core.Path.{◌≡◌, sym, ◌∙◌}
 use mathlib.Core.Bool.{true, false}
 use mathlib.Core.List.{List, [], ◌∷◌, ◌++◌}
-use Prim.Native.Nat.{ℕ, ◌+◌, ◌-◌}
+use Prim.Native.Nat.{ℕ, ◌+◌, ◌-◌, ◌≤◌}
+use native.Mathlib.Omega.{arith}
+use lib.ListN.{take, drop, length-take}
 use lib.Dec.{eqb}
 use lib.IntN.{ℤ}
 use borrow.Author.Tests.{eq-eqb, ne_eqb}
@@ -11,7 +13,13 @@ use Rattle.scope.specs.Canonical.{mass_text, score_text, value_text, label_text,
 use Rattle.scope.specs.Lists.{given, part}
 use Rattle.scope.specs.Keys.{written, key_in}
 use Rattle.scope.specs.Layout.{mass_code, text_code, composition_code, texts_at, number_in, score_in, label_in, value_in, part_in, decimals_field, key_field, label_field, mass_field, offset_field, score_field, score_number, text_field, value_field}
+use Rattle.figures.specs.Written.{Puts}
+use Rattle.figures.proofs.Storing.{puts_exact}
 use Rattle.writer.specs.Written.{text_at, scored_text, next_text}
+
+-- a slice of n bytes is put, at most b of them
+pub puts_part : (l : List ℕ) (s n : ℕ) {b m : ℕ} {o : List ℕ} {at : ℕ} {left : List ℕ} {r : ℕ} → n ≤ b → Puts m o at (take (s + n - s) (drop s l)) left r → Puts b o at (part s n l) left r
+puts_part l s n h a = let k : s + n - s ≡ n = omega arith in puts_exact (omega (arith, length-take n (drop s l))) (rw k at a)
 
 -- ---- scores, labels and values
 module _ (bs : List ℕ) (ns : List ℤ) (k : ℕ) where

@@ -8,15 +8,16 @@ ghost use Rattle.scope.specs.Places.{site_text, places_text};
 ghost use Rattle.scope.specs.Canonical.{value_text, label_text, part_text, parts_text, declared_text, opening, ending, is_next, goes_on, sequence_text, closed_by, led_by, canonical};
 ghost use Rattle.scope.specs.Lists.{given, tabled};
 ghost use Rattle.scope.specs.Limits.{residue_limit, bracket_limit, part_limit, place_limit, text_limit};
-ghost use Rattle.scope.specs.Layout.{bytes_size, texts_at, score_in, label_in, value_in, part_in, place_in, section_in, residue_in, bracket_in, tables_in, brackets_field, offset_field, parts_field, places_field, residues_field, site_field};
+ghost use Rattle.scope.specs.Layout.{bytes_size, texts_at, score_in, label_in, value_in, part_in, place_in, section_in, residue_in, bracket_in, tables_in, brackets_field, offset_field, parts_field, places_field, residues_field, section_field, section_code, site_field};
 ghost use Rattle.scope.specs.Kinds.{kind_in};
 ghost use Rattle.areas.specs.Bounds.{Bounds};
 ghost use Rattle.figures.specs.Written.{Puts, ceiling};
 ghost use Rattle.writer.specs.Written.{value_most, score_most, label_most, part_most, next_most, parts_most, between_most, next_place_most, places_most, declared_most, bracket_most, residue_most, residues_most, front_most, line_most, text_at, scored_text, next_text, WholeLine};
 ghost use Rattle.writer.specs.Here.{BracketHere, PartHere, RoomFor};
-ghost use Rattle.writer.specs.Ranks.{rank_of, rank_in, c_term_rank, orderedb, ReadyToWrite, text_as, ranked_text, run_text, front_text, Walks, residue_text, NoneBelow, Behind, Spells, InOrder};
+ghost use Rattle.writer.specs.Ranks.{rank_of, rank_in, c_term_rank, orderedb, ReadyToWrite, text_as, ranked_text, run_text, front_text, Walks, residue_text, NoneBelow, Spells, InOrder};
 
-use figures::{copy, put, put_count, put_number};
+use figures::{put, put_count, put_number, word};
+use scope::grammar::{Kind, Section};
 use scope::tables::Tables;
 use spelling::{put_key, put_site};
 
@@ -28,30 +29,30 @@ const TEXT: usize = 2;
 const COMPOSITION: usize = 4;
 
 // The codes of the kinds of brackets; any other number means an unknown position.
-const UNKNOWN: usize = 1;
+const UNKNOWN: usize = Kind::Unknown as usize;
 
-const LABILE: usize = 2;
+const LABILE: usize = Kind::Labile as usize;
 
-const N_TERM: usize = 3;
+const N_TERM: usize = Kind::NTerm as usize;
 
-const ON_RESIDUE: usize = 4;
+const ON_RESIDUE: usize = Kind::OnResidue as usize;
 
-const ON_RANGE: usize = 5;
+const ON_RANGE: usize = Kind::OnRange as usize;
 
-const C_TERM: usize = 6;
+const C_TERM: usize = Kind::CTerm as usize;
 
-const DECLARED: usize = 7;
+const DECLARED: usize = Kind::Declared as usize;
 
 // The codes of the sections.
-const PLAIN: usize = 0;
+const PLAIN: usize = Section::Plain as usize;
 
-const RANGE_FIRST: usize = 1;
+const RANGE_FIRST: usize = Section::RangeFirst as usize;
 
-const RANGE_NEXT: usize = 2;
+const RANGE_NEXT: usize = Section::RangeNext as usize;
 
-const UNSURE_FIRST: usize = 3;
+const UNSURE_FIRST: usize = Section::UnsureFirst as usize;
 
-const UNSURE_NEXT: usize = 4;
+const UNSURE_NEXT: usize = Section::UnsureNext as usize;
 
 // From the ranks of a position to those of the next: a bracket's rank is that of its last position and the code of its kind, or 0 for a
 // declaration.
@@ -97,7 +98,7 @@ fn put_label(bytes: &[u8], numbers: &[i64], k: usize, j: usize, out: &mut [u8], 
     let t = areas::text_length(bytes, k, j);
     let from = text_from(bytes, k, j);
     let a = put(out, at, b'#');
-    let e = copy(bytes, from + t, n, out, a);
+    let e = word(&bytes[from + t..from + t + n], out, a);
     put_scored(bytes, numbers, k, out, e)
 }
 
@@ -108,7 +109,7 @@ fn put_text(bytes: &[u8], k: usize, j: usize, out: &mut [u8], at: usize) -> usiz
 {
     let n = areas::text_length(bytes, k, j);
     let from = text_from(bytes, k, j);
-    copy(bytes, from, n, out, at)
+    word(&bytes[from..from + n], out, at)
 }
 
 // The mass or the text of part j.
@@ -116,19 +117,14 @@ fn put_value(bytes: &[u8], numbers: &[i64], k: usize, j: usize, out: &mut [u8], 
     requires { PartHere bytes.now numbers.now k j × (at + value_most ≤ ceiling) }
     ensures { Puts value_most out.old at (value_text (value_in bytes.now numbers.now k j)) out.new result }
 {
-    let v = areas::value(bytes, k, j);
-    if v == MASS {
-        let d = areas::decimals(bytes, k, j);
-        let m = areas::mass(numbers, k, j);
-        return put_number(m, d, true, out, at);
+    match areas::value(bytes, k, j) {
+        MASS => {
+            let d = areas::decimals(bytes, k, j);
+            put_number(areas::mass(numbers, k, j), d, true, out, at)
+        }
+        TEXT | COMPOSITION => put_text(bytes, k, j, out, at),
+        _ => at,
     }
-    if v == TEXT {
-        return put_text(bytes, k, j, out, at);
-    }
-    if v == COMPOSITION {
-        return put_text(bytes, k, j, out, at);
-    }
-    at
 }
 
 // Part j of bracket k.
@@ -155,10 +151,11 @@ fn put_next_part(
     ensures { Puts next_most out.old at (next_text bar j (part_text (part_in bytes.now numbers.now k j))) out.new result }
 {
     if j == 0 {
-        return put_part(bytes, numbers, k, j, out, at);
+        put_part(bytes, numbers, k, j, out, at)
+    } else {
+        let a = put(out, at, b'|');
+        put_part(bytes, numbers, k, j, out, a)
     }
-    let a = put(out, at, b'|');
-    put_part(bytes, numbers, k, j, out, a)
 }
 
 // ---- brackets
@@ -168,12 +165,9 @@ fn put_parts(bytes: &[u8], numbers: &[i64], k: usize, out: &mut [u8], at: usize)
     requires { BracketHere bytes.now numbers.now k × (at + parts_most ≤ ceiling) }
     ensures { Puts parts_most out.old at (parts_text (tabled (part_in bytes.now numbers.now k) 0 (parts_field bytes.now k))) out.new result }
 {
-    let n = areas::parts(bytes, k);
-    let mut j = 0;
     let mut a = at;
-    while j < n {
+    for j in 0..areas::parts(bytes, k) {
         a = put_next_part(bytes, numbers, k, j, out, a);
-        j += 1;
     }
     a
 }
@@ -203,10 +197,11 @@ fn put_next_place(bytes: &[u8], k: usize, j: usize, out: &mut [u8], at: usize) -
 {
     let s = areas::site(bytes, k, j);
     if j == 0 {
-        return put_site(s, out, at);
+        put_site(s, out, at)
+    } else {
+        let a = put(out, at, b',');
+        put_site(s, out, a)
     }
-    let a = put(out, at, b',');
-    put_site(s, out, a)
 }
 
 // The places of bracket k, split by `,`.
@@ -214,12 +209,9 @@ fn put_places(bytes: &[u8], k: usize, out: &mut [u8], at: usize) -> usize
     requires { (bytes_size ≤ length bytes.now) × (k < bracket_limit) × (places_field bytes.now k ≤ place_limit) × (at + places_most ≤ ceiling) }
     ensures { Puts places_most out.old at (places_text (tabled (place_in bytes.now k) 0 (places_field bytes.now k))) out.new result }
 {
-    let n = areas::places(bytes, k);
-    let mut j = 0;
     let mut a = at;
-    while j < n {
+    for j in 0..areas::places(bytes, k) {
         a = put_next_place(bytes, k, j, out, a);
-        j += 1;
     }
     a
 }
@@ -237,7 +229,7 @@ fn put_declared(bytes: &[u8], numbers: &[i64], k: usize, out: &mut [u8], at: usi
 }
 
 // How a bracket is written: square with its count, as one of unknown position; curly, as a labile one; square; with its places, as a declaration.
-#[derive(Clone, Copy)]
+#[derive(Clone, Copy, Debug, PartialEq, Eq)]
 pub enum Shape {
     Counted,
     Curly,
@@ -298,16 +290,13 @@ pub fn in_order(bytes: &[u8]) -> bool
     requires { (bytes_size ≤ length bytes.now) × (brackets_field bytes.now ≤ bracket_limit) }
     ensures { (ns : List ℤ) → result ≡ orderedb (tables_in bytes.now ns) }
 {
-    let m = areas::brackets(bytes);
-    let mut k = 0;
     let mut q = 0;
-    while k < m {
+    for k in 0..areas::brackets(bytes) {
         let r = rank_at(bytes, k);
         if r < q {
             return false;
         }
         q = r;
-        k += 1;
     }
     true
 }
@@ -327,13 +316,14 @@ fn put_ranked(
     ensures { Puts bracket_most out.old at (ranked_text shape q (bracket_in bytes.now numbers.now k)) out.new result }
 {
     if r == q {
-        return put_bracket(bytes, numbers, k, shape, out, at);
+        put_bracket(bytes, numbers, k, shape, out, at)
+    } else {
+        at
     }
-    at
 }
 
 // Where the writer stands: in the output, and among the brackets or the residues.
-#[derive(Drop)]
+#[derive(Clone, Copy, Debug, PartialEq, Eq)]
 pub struct Pen {
     pub place: usize,
     pub next: usize,
@@ -353,17 +343,15 @@ fn put_run(
     ensures { Walks bytes.now 0 from (q + 1) out.old at (run_text shape q (tables_in bytes.now numbers.now).brackets) out.new result.place result.next }
 {
     let m = areas::brackets(bytes);
-    let mut j = from;
     let mut a = at;
-    while j < m {
+    for j in from..m {
         let r = rank_at(bytes, j);
         if q < r {
             return Pen { place: a, next: j };
         }
         a = put_ranked(bytes, numbers, j, r, q, shape, out, a);
-        j += 1;
     }
-    Pen { place: a, next: j }
+    Pen { place: a, next: m }
 }
 
 // ---- residues
@@ -373,27 +361,18 @@ fn put_opening(c: usize, out: &mut [u8], at: usize) -> usize
     requires { at + 2 ≤ ceiling }
     ensures { Puts 2 out.old at (opening (section_in c)) out.new result }
 {
-    if c == RANGE_FIRST {
-        return put(out, at, b'(');
+    match c {
+        RANGE_FIRST => put(out, at, b'('),
+        UNSURE_FIRST => word(b"(?", out, at),
+        _ => at,
     }
-    if c == UNSURE_FIRST {
-        let a = put(out, at, b'(');
-        return put(out, a, b'?');
-    }
-    at
 }
 
 // Whether a residue with section c goes on with a group.
 fn is_next(c: usize) -> bool
     ensures { result ≡ is_next (section_in c) }
 {
-    if c == RANGE_NEXT {
-        return true;
-    }
-    if c == UNSURE_NEXT {
-        return true;
-    }
-    false
+    matches!(c, RANGE_NEXT | UNSURE_NEXT)
 }
 
 // Whether the residue with index p, if there is one, goes on with the group of the one before it.
@@ -401,10 +380,7 @@ fn goes_on(bytes: &[u8], p: usize, n: usize) -> bool
     requires { (bytes_size ≤ length bytes.now) × (n ≤ residue_limit) }
     ensures { result ≡ goes_on (tabled (residue_in bytes.now) p (n - p)) }
 {
-    if n <= p {
-        return false;
-    }
-    is_next(areas::section(bytes, p))
+    p < n && is_next(areas::section(bytes, p))
 }
 
 // `)` and the brackets on the range that ends at position i.
@@ -444,29 +420,16 @@ fn put_ending(
     requires { ReadyToWrite bytes.now numbers.now × (from ≤ brackets_field bytes.now) × ((k : ℕ) → k < from → rank_in bytes.now k < rank_of OnRange i) × RoomFor bytes.now from 1 at × (i ≤ residue_limit) }
     ensures { Walks bytes.now 1 from (rank_of OnRange i + 1) out.old at (ending (section_in c) (run_text Shape.Square (rank_of OnRange i) (tables_in bytes.now numbers.now).brackets)) out.new result.place result.next }
 {
-    if c == RANGE_FIRST {
-        return put_range_end(bytes, numbers, i, from, out, at);
-    }
-    if c == RANGE_NEXT {
-        return put_range_end(bytes, numbers, i, from, out, at);
-    }
-    if c == UNSURE_FIRST {
-        let a = put(out, at, b')');
-        return Pen {
-            place: a,
+    match c {
+        RANGE_FIRST | RANGE_NEXT => put_range_end(bytes, numbers, i, from, out, at),
+        UNSURE_FIRST | UNSURE_NEXT => {
+            let place = put(out, at, b')');
+            Pen { place, next: from }
+        }
+        _ => Pen {
+            place: at,
             next: from,
-        };
-    }
-    if c == UNSURE_NEXT {
-        let a = put(out, at, b')');
-        return Pen {
-            place: a,
-            next: from,
-        };
-    }
-    Pen {
-        place: at,
-        next: from,
+        },
     }
 }
 
@@ -497,12 +460,11 @@ fn put_residue(
         out,
         e,
     );
-    let place = pen.place;
-    let next = pen.next;
     if goes_on(bytes, i, n) {
-        return pen;
+        pen
+    } else {
+        put_ending(bytes, numbers, c, i, pen.next, out, pen.place)
     }
-    put_ending(bytes, numbers, c, i, next, out, place)
 }
 
 // The rank of a bracket at the C-terminus.
@@ -520,73 +482,46 @@ fn next_rank(bytes: &[u8], j: usize) -> usize
     ensures { (ns : List ℤ) → ReadyToWrite bytes.now ns → NoneBelow bytes.now j result }
 {
     if j < areas::brackets(bytes) {
-        return rank_at(bytes, j);
+        rank_at(bytes, j)
+    } else {
+        c_term_rank(bytes)
     }
-    c_term_rank(bytes)
 }
 
 // How many residues, of n, stand before the position of rank q.
 fn residues_before(n: usize, q: usize) -> usize
     ensures { (result ≤ n) × ((i : ℕ) → i < result → rank_of OnResidue (i + 1) < q) }
 {
-    let last = q / RANK_STEP;
-    if n < last {
-        return n;
-    }
-    if last == 0 {
-        return 0;
-    }
-    last - 1
+    n.min((q / RANK_STEP).saturating_sub(1))
 }
 
-// The residues from index p on, before index e, as far as they stand by themselves.
-fn put_letters(bytes: &[u8], p: usize, e: usize, out: &mut [u8], at: usize) -> Pen
-    requires { (bytes_size ≤ length bytes.now) × (e ≤ residue_limit) × (at + (e - p) ≤ ceiling) }
-    ensures { (p ≤ result.next) × ((ns : List ℤ) (n j : ℕ) → e ≤ n → Behind bytes.now j e → Spells bytes.now ns n j out.old p at out.new result.next result.place) }
+// The first residue from index p on, before index e, that does not stand by itself; behind them all where each does.
+fn plain_end(bytes: &[u8], p: usize, e: usize) -> usize
+    requires { (bytes_size ≤ length bytes.now) × (e ≤ residue_limit) }
+    ensures from { p ≤ result }
+    ensures to { result ≤ p + (e - p) }
+    ensures plain { (i : ℕ) → p ≤ i → i < result → section_field bytes.now i ≡ section_code Section.Plain }
 {
-    let mut i = p;
-    let mut a = at;
-    while i < e {
+    for i in p..e {
         if areas::section(bytes, i) != PLAIN {
-            return Pen { place: a, next: i };
+            return i;
         }
-        a = put(out, a, areas::letter(bytes, i));
-        i += 1;
     }
-    Pen { place: a, next: i }
+    p.max(e)
 }
 
-// The same, in an output that has room for all of them.
-fn store_letters(bytes: &[u8], p: usize, e: usize, out: &mut [u8], at: usize) -> Pen
-    requires { (bytes_size ≤ length bytes.now) × (e ≤ residue_limit) × (at + e ≤ length out.old) }
-    ensures { (p ≤ result.next) × ((ns : List ℤ) (n j : ℕ) → e ≤ n → Behind bytes.now j e → Spells bytes.now ns n j out.old p at out.new result.next result.place) }
-{
-    let mut i = p;
-    let mut a = at;
-    while i < e {
-        if areas::section(bytes, i) != PLAIN {
-            return Pen { place: a, next: i };
-        }
-        out[a] = areas::letter(bytes, i);
-        a += 1;
-        i += 1;
-    }
-    Pen { place: a, next: i }
-}
-
-// The residues from index p on, of n, that stand by themselves and before bracket j.
+// The residues from index p on, of n, that stand by themselves and before bracket j: their letters at once.
 fn put_bare(bytes: &[u8], p: usize, n: usize, j: usize, out: &mut [u8], at: usize) -> Pen
-    requires { (bytes_size ≤ length bytes.now) × (brackets_field bytes.now ≤ bracket_limit) × (n ≤ residue_limit) × (at + (n - p) ≤ ceiling) }
+    requires { (bytes_size ≤ length bytes.now) × (brackets_field bytes.now ≤ bracket_limit) × (n ≤ residue_limit) × (at + (n - p) ≤ ceiling) × (p ≤ n) }
     ensures { (p ≤ result.next) × ((ns : List ℤ) → ReadyToWrite bytes.now ns → Spells bytes.now ns n j out.old p at out.new result.next result.place) }
 {
     let e = residues_before(n, next_rank(bytes, j));
-    if at + e <= out.len() {
-        return store_letters(bytes, p, e, out, at);
-    }
-    put_letters(bytes, p, e, out, at)
+    let next = plain_end(bytes, p, e);
+    let place = word(&bytes[Tables::LETTERS + p..Tables::LETTERS + next], out, at);
+    Pen { place, next }
 }
 
-// The sequence: residues by themselves, then one with a section or brackets, and so on.
+// The sequence: residues by themselves, then one with a section or brackets, and so on. The index goes behind those by themselves at once: no step of one.
 fn put_sequence(bytes: &[u8], numbers: &[i64], from: usize, out: &mut [u8], at: usize) -> Pen
     requires { ReadyToWrite bytes.now numbers.now × (from ≤ brackets_field bytes.now) × ((k : ℕ) → k < from → rank_in bytes.now k < rank_of OnResidue 1) × RoomFor bytes.now from residues_most at }
     ensures { Walks bytes.now residues_most from (c_term_rank bytes.now) out.old at (sequence_text (tables_in bytes.now numbers.now).brackets 1 (tables_in bytes.now numbers.now).residues) out.new result.place result.next }
@@ -597,15 +532,16 @@ fn put_sequence(bytes: &[u8], numbers: &[i64], from: usize, out: &mut [u8], at: 
     let mut j = from;
     while p < n {
         let letters = put_bare(bytes, p, n, j, out, a);
-        let e = letters.place;
-        let i = letters.next;
-        if n <= i {
-            return Pen { place: e, next: j };
+        if n <= letters.next {
+            return Pen {
+                place: letters.place,
+                next: j,
+            };
         }
-        let pen = put_residue(bytes, numbers, i, n, j, out, e);
+        let pen = put_residue(bytes, numbers, letters.next, n, j, out, letters.place);
         a = pen.place;
         j = pen.next;
-        p = i + 1;
+        p = letters.next + 1;
     }
     Pen { place: a, next: j }
 }
@@ -627,13 +563,12 @@ fn put_closed(
     ensures { Walks bytes.now 1 from (q + 1) out.old at (closed_by (run_text shape q (tables_in bytes.now numbers.now).brackets) closer) out.new result.place result.next }
 {
     let pen = put_run(bytes, numbers, from, q, shape, out, at);
-    let place = pen.place;
-    let next = pen.next;
-    if place == at {
-        return pen;
+    if pen.place == at {
+        pen
+    } else {
+        let place = put(out, pen.place, closer);
+        Pen { place, ..pen }
     }
-    let a = put(out, place, closer);
-    Pen { place: a, next }
 }
 
 // `-` and the C-terminal brackets, where there are any.
@@ -664,15 +599,35 @@ fn put_front(bytes: &[u8], numbers: &[i64], out: &mut [u8], at: usize) -> Pen
         return Pen { place: at, next: 0 };
     }
     let declared = put_run(bytes, numbers, 0, FIRST_RANK, Shape::Angled, out, at);
-    let d = declared.place;
-    let h = declared.next;
-    let unknown = put_closed(bytes, numbers, h, UNKNOWN, Shape::Counted, b'?', out, d);
-    let a = unknown.place;
-    let i = unknown.next;
-    let labile = put_run(bytes, numbers, i, LABILE, Shape::Curly, out, a);
-    let b = labile.place;
-    let j = labile.next;
-    put_closed(bytes, numbers, j, N_TERM, Shape::Square, b'-', out, b)
+    let unknown = put_closed(
+        bytes,
+        numbers,
+        declared.next,
+        UNKNOWN,
+        Shape::Counted,
+        b'?',
+        out,
+        declared.place,
+    );
+    let labile = put_run(
+        bytes,
+        numbers,
+        unknown.next,
+        LABILE,
+        Shape::Curly,
+        out,
+        unknown.place,
+    );
+    put_closed(
+        bytes,
+        numbers,
+        labile.next,
+        N_TERM,
+        Shape::Square,
+        b'-',
+        out,
+        labile.place,
+    )
 }
 
 // The canonical line from a place on, as much of it as fits into the output.
@@ -681,12 +636,8 @@ pub fn put_line(bytes: &[u8], numbers: &[i64], out: &mut [u8], at: usize) -> usi
     ensures { Puts line_most out.old at (canonical (tables_in bytes.now numbers.now)) out.new result }
 {
     let front = put_front(bytes, numbers, out, at);
-    let a = front.place;
-    let i = front.next;
-    let sequence = put_sequence(bytes, numbers, i, out, a);
-    let b = sequence.place;
-    let j = sequence.next;
-    put_c_term(bytes, numbers, j, out, b)
+    let sequence = put_sequence(bytes, numbers, front.next, out, front.place);
+    put_c_term(bytes, numbers, sequence.next, out, sequence.place)
 }
 
 // The canonical line, as much of it as fits into the output, and its length.

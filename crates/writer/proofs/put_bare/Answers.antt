@@ -1,9 +1,11 @@
--- The residues with a rank below that of bracket j stand before it and all behind it, whether they are stored or put. Assumes nothing.
-use Rattle.writer.proofs.LineLaws.{letters_before}
+-- The residues with a rank below that of bracket j stand before it and all behind it; those that stand by themselves are written at once. Assumes nothing.
+use Rattle.std.proofs.Common.{arith}
+use Rattle.writer.proofs.LineLaws.{letters_before, letters_written}
 use Rattle.writer.proofs.put_bare.Goals as goal
 
-pub returns-then-at-e : goal.returns-then-at-e
-returns-then-at-e c = letters_before c.args.bytes.now c.residues_before-e.ensures c.next_rank.ensures c.store_letters.ensures
-
 pub returns : goal.returns
-returns c = letters_before c.args.bytes.now c.residues_before-e.ensures c.next_rank.ensures c.put_letters.ensures
+returns c =
+    let r = c.requires in
+    let run = c.plain_end-next.ensures in
+    letters_before c.args.bytes.now c.residues_before-e.ensures c.next_rank.ensures
+    (letters_written c.args.bytes.now r.0 (omega (arith, c.residues_before-e.ensures.0, r.2)) run.from run.to run.plain c.word-place.ensures)

@@ -13,7 +13,7 @@ returns-then-j-eq0 c =
     puts_of (next_first _ _ _ c.if-j-eq0.true ∙ ap (λ x. next_text comma c.args.j (site_text x)) c.site-s.ensures)
     (puts_within (omega arith) c.put_site.ensures)
 
-pub returns : goal.returns
-returns c =
+pub returns-else-j-eq0 : goal.returns-else-j-eq0
+returns-else-j-eq0 c =
     puts_of (next_later _ _ _ c.if-j-eq0.false ∙ ap (λ x. next_text comma c.args.j (site_text x)) c.site-s.ensures)
-    (puts_join c.put-a.ensures c.put_site-2.ensures)
+    (puts_join c.put-a.ensures c.put_site-else-j-eq0.ensures)

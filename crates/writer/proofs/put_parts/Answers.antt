@@ -1,4 +1,3 @@
-use borrow.Author.Rules.{rules}
 use mathlib.Core.Path.{◌≡◌, ap, ◌∙◌}
 use native.Mathlib.Omega.{arith}
 use Rattle.scope.specs.Canonical.{parts_text}
@@ -9,21 +8,21 @@ use Rattle.writer.proofs.RankLaws.{no_parts_lem, parts_more, part_here}
 use Rattle.writer.proofs.put_parts.Goals as goal
 
 pub loop-j-init : goal.loop-j-init
-loop-j-init c = (search rules, puts_of (no_parts_lem _) (puts_none _ _))
+loop-j-init c = puts_of (no_parts_lem _) (puts_none _ _)
 
 pub put_next_part-a-requires : goal.put_next_part-a-requires
 put_next_part-a-requires c =
-    let many = c.parts-n.ensures.0 in
+    let many = c.parts-j-end.ensures.0 in
     (part_here _ _ _ _ c.requires.0 (rw many at c.loop-j-test.true), omega (arith, many))
 
 pub loop-j-preserved : goal.loop-j-preserved
 loop-j-preserved c =
-    (search rules, puts_of (parts_more _ _) (puts_within (omega arith) (puts_join c.loop-j.invariant.1 c.put_next_part-a.ensures)))
+    puts_of (parts_more _ _) (puts_within (omega arith) (puts_join c.loop-j.invariant c.put_next_part-a.ensures))
 
 pub returns : goal.returns
 returns c =
     let l = c.loop-j in
     let a = c.args in
-    let many = c.parts-n.ensures.0 in
-    let all : l.j ≡ c.parts-n.result = omega arith in
-    puts_of (ap (λ c. parts_text (tabled (part_in a.bytes.now a.numbers.now a.k) 0 c)) (all ∙ many)) (puts_within (omega (arith, many)) l.invariant.1)
+    let many = c.parts-j-end.ensures.0 in
+    let all : l.j ≡ c.parts-j-end.result = omega arith in
+    puts_of (ap (λ c. parts_text (tabled (part_in a.bytes.now a.numbers.now a.k) 0 c)) (all ∙ many)) (puts_within (omega (arith, many)) l.invariant)

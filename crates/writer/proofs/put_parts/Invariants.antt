@@ -1,5 +1,5 @@
 -- The invariant: the first j parts are written. Assumes nothing.
-use Prim.Native.Nat.{◌-◌, ◌*◌, ◌≤◌}
+use Prim.Native.Nat.{◌*◌}
 use Rattle.scope.specs.Canonical.{parts_text}
 use Rattle.scope.specs.Lists.{tabled}
 use Rattle.scope.specs.Layout.{part_in}
@@ -8,7 +8,4 @@ use Rattle.writer.specs.Written.{next_most}
 use Rattle.writer.proofs.put_parts.Given as goal
 
 abbrev pub invariant-loop-j : goal.invariant-loop-j
-invariant-loop-j l = (l.j ≤ l.n) × Puts (next_most * l.j) l.initial.out l.at (parts_text (tabled (part_in l.bytes l.numbers l.k) 0 l.j)) l.out l.a
-
-abbrev pub decreases-loop-j : goal.decreases-loop-j
-decreases-loop-j l = l.n - l.j
+invariant-loop-j l = Puts (next_most * l.j) l.initial.out l.at (parts_text (tabled (part_in l.bytes l.numbers l.k) 0 l.j)) l.out l.a

@@ -1,4 +1,3 @@
-use borrow.Author.Rules.{rules}
 use mathlib.Core.Path.{◌≡◌, ap, ◌∙◌}
 use native.Mathlib.Omega.{arith}
 use Rattle.scope.specs.Places.{places_text}
@@ -9,21 +8,21 @@ use Rattle.writer.proofs.RankLaws.{no_places, places_more}
 use Rattle.writer.proofs.put_places.Goals as goal
 
 pub loop-j-init : goal.loop-j-init
-loop-j-init c = (search rules, puts_of (no_places _) (puts_none _ _))
+loop-j-init c = puts_of (no_places _) (puts_none _ _)
 
 pub put_next_place-a-requires : goal.put_next_place-a-requires
 put_next_place-a-requires c =
-    let many = c.places-n.ensures.0 in
+    let many = c.places-j-end.ensures.0 in
     (c.requires.0, c.requires.1, omega (arith, many, c.requires.2), omega (arith, many, c.requires.2))
 
 pub loop-j-preserved : goal.loop-j-preserved
 loop-j-preserved c =
-    (search rules, puts_of (places_more _ _) (puts_within (omega arith) (puts_join c.loop-j.invariant.1 c.put_next_place-a.ensures)))
+    puts_of (places_more _ _) (puts_within (omega arith) (puts_join c.loop-j.invariant c.put_next_place-a.ensures))
 
 pub returns : goal.returns
 returns c =
     let l = c.loop-j in
     let a = c.args in
-    let many = c.places-n.ensures.0 in
-    let all : l.j ≡ c.places-n.result = omega arith in
-    puts_of (ap (λ c. places_text (tabled (place_in a.bytes.now a.k) 0 c)) (all ∙ many)) (puts_within (omega (arith, many, c.requires.2)) l.invariant.1)
+    let many = c.places-j-end.ensures.0 in
+    let all : l.j ≡ c.places-j-end.result = omega arith in
+    puts_of (ap (λ c. places_text (tabled (place_in a.bytes.now a.k) 0 c)) (all ∙ many)) (puts_within (omega (arith, many, c.requires.2)) l.invariant)

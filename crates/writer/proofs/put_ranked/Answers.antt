@@ -9,7 +9,7 @@ returns-then-r-q c =
     let a = c.args in
     puts_of (ranked_yes a.bytes.now a.numbers.now a.k a.shape c.requires.1 c.if-r-q.true) c.put_bracket.ensures
 
-pub returns : goal.returns
-returns c =
+pub returns-else-r-q : goal.returns-else-r-q
+returns-else-r-q c =
     let a = c.args in
     puts_of (ranked_no a.bytes.now a.numbers.now a.k a.shape c.requires.1 c.if-r-q.false) (puts_within (omega arith) (puts_none _ _))

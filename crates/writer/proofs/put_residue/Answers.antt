@@ -39,8 +39,8 @@ put_ending-requires c =
       omega (arith, b.few_residues, c.requires.4, c.requires.5),
     )
 
-pub returns : goal.returns
-returns c =
+pub returns-else-goes_on : goal.returns-else-goes_on
+returns-else-goes_on c =
     let b = c.requires.0.bounds in
     let a = c.args in
     walks_of (residue_off a.bytes.now (tables_in a.bytes.now a.numbers.now).brackets a.p (tabled (residue_in a.bytes.now) (a.p + 1) (a.n - (a.p + 1))) c.section-c.ensures.0 c.letter-b.ensures (sym c.goes_on.ensures ∙ c.if-goes_on.false))

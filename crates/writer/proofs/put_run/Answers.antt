@@ -1,3 +1,4 @@
+use mathlib.Core.Path.{◌≡◌}
 use native.Mathlib.Omega.{arith}
 use Rattle.writer.proofs.RankLaws.{bracket_here}
 use Rattle.writer.proofs.Walking.{room_one}
@@ -30,4 +31,6 @@ loop-j-preserved c =
     run_more _ _ _ _ _ _ _ _ c.loop-j.invariant c.loop-j-test.true c.rank_at-r.ensures c.if-q-r.false c.put_ranked-a.ensures
 
 pub returns : goal.returns
-returns c = run_over _ _ _ _ _ _ _ _ c.loop-j.invariant c.loop-j-test.false
+returns c =
+    let e : c.loop-j.j ≡ c.brackets-m.result = omega (arith, c.loop-j.invariant.within) in
+    rw e at (run_over _ _ _ _ _ _ _ _ c.loop-j.invariant c.loop-j-test.false)

@@ -16,13 +16,13 @@ pub put_bare-letters-requires : goal.put_bare-letters-requires
 put_bare-letters-requires c =
     let b = c.requires.0.bounds in
     let few : c.residues-n.result ≤ residue_limit = omega (arith, b.few_residues, c.residues-n.ensures.0) in
-    (b.bytes_room, b.few_brackets_lem, few, omega (arith, (spelt_room _ _ _ _ _ _ c.loop-p.invariant few c.requires.3).fits))
+    (b.bytes_room, b.few_brackets_lem, few, omega (arith, (spelt_room _ _ _ _ _ _ c.loop-p.invariant few c.requires.3).fits), omega arith)
 
-pub returns-then-n-i : goal.returns-then-n-i
-returns-then-n-i c =
+pub returns-then-n-letters : goal.returns-then-n-letters
+returns-then-n-letters c =
     let e = c.residues-n.ensures.0 in
     let spelt = c.put_bare-letters.ensures.1 _ c.requires.0 _ _ _ c.loop-p.invariant in
-    spelt_over _ _ _ _ _ _ spelt c.if-n-i.true e (omega (arith, c.requires.0.bounds.few_residues, e))
+    spelt_over _ _ _ _ _ _ spelt c.if-n-letters.true e (omega (arith, c.requires.0.bounds.few_residues, e))
 
 pub put_residue-pen-requires : goal.put_residue-pen-requires
 put_residue-pen-requires c =
@@ -30,15 +30,15 @@ put_residue-pen-requires c =
     let spelt = c.put_bare-letters.ensures.1 _ c.requires.0 _ _ _ c.loop-p.invariant in
     let w = spelt.walks in
     let left = spelt_room _ _ _ _ _ _ spelt (omega (arith, c.requires.0.bounds.few_residues, e)) c.requires.3 in
-    (c.requires.0, w.within, w.below, room_less (omega (arith, c.if-n-i.false)) left, e, c.if-n-i.false)
+    (c.requires.0, w.within, w.below, room_less (omega (arith, c.if-n-letters.false)) left, e, c.if-n-letters.false)
 
 pub loop-p-smaller : goal.loop-p-smaller
-loop-p-smaller c = omega (arith, c.put_bare-letters.ensures.0, c.if-n-i.false)
+loop-p-smaller c = omega (arith, c.put_bare-letters.ensures.0, c.if-n-letters.false)
 
 pub loop-p-preserved : goal.loop-p-preserved
 loop-p-preserved c =
     let spelt = c.put_bare-letters.ensures.1 _ c.requires.0 _ _ _ c.loop-p.invariant in
-    spelt_more _ _ _ _ _ _ spelt c.if-n-i.false c.put_residue-pen.ensures
+    spelt_more _ _ _ _ _ _ spelt c.if-n-letters.false c.put_residue-pen.ensures
 
 pub returns : goal.returns
 returns c =

@@ -8,7 +8,7 @@ ghost use Rattle.scope.specs.Places.{site_text, places_text};
 ghost use Rattle.scope.specs.Canonical.{value_text, label_text, part_text, parts_text, declared_text, opening, ending, is_next, goes_on, sequence_text, closed_by, led_by, canonical};
 ghost use Rattle.scope.specs.Lists.{given, tabled};
 ghost use Rattle.scope.specs.Limits.{residue_limit, bracket_limit, part_limit, place_limit, text_limit};
-ghost use Rattle.scope.specs.Layout.{bytes_size, texts_at, score_in, label_in, value_in, part_in, place_in, section_in, residue_in, bracket_in, tables_in, brackets_field, offset_field, parts_field, places_field, residues_field, section_field, section_code, site_field};
+ghost use Rattle.scope.specs.Layout.{texts_at, score_in, label_in, value_in, part_in, place_in, section_in, residue_in, bracket_in, tables_in, brackets_field, offset_field, parts_field, places_field, residues_field, section_field, section_code, site_field};
 ghost use Rattle.scope.specs.Kinds.{kind_in};
 ghost use Rattle.areas.specs.Bounds.{Bounds};
 ghost use Rattle.figures.specs.Written.{Puts, ceiling};
@@ -16,6 +16,7 @@ ghost use Rattle.writer.specs.Written.{value_most, score_most, label_most, part_
 ghost use Rattle.writer.specs.Here.{BracketHere, PartHere, RoomFor};
 ghost use Rattle.writer.specs.Ranks.{rank_of, rank_in, c_term_rank, orderedb, ReadyToWrite, text_as, ranked_text, run_text, front_text, Walks, residue_text, NoneBelow, Spells, InOrder};
 
+use areas::{Bytes, Numbers};
 use figures::{put, put_count, put_number, word};
 use scope::grammar::{Kind, Section};
 use scope::tables::Tables;
@@ -64,15 +65,15 @@ const FIRST_RANK: usize = 0;
 // ---- parts
 
 // Where the text of part j of bracket k begins.
-fn text_from(bytes: &[u8], k: usize, j: usize) -> usize
-    requires { (bytes_size ≤ length bytes.now) × (k < bracket_limit) × (j < part_limit) }
+fn text_from(bytes: &Bytes, k: usize, j: usize) -> usize
+    requires { (k < bracket_limit) × (j < part_limit) }
     ensures { result ≡ texts_at + offset_field bytes.now k j }
 {
     Tables::TEXTS + areas::offset(bytes, k, j)
 }
 
 // A score in its round brackets, where there is one.
-fn put_scored(bytes: &[u8], numbers: &[i64], k: usize, out: &mut [u8], at: usize) -> usize
+fn put_scored(bytes: &Bytes, numbers: &Numbers, k: usize, out: &mut [u8], at: usize) -> usize
     requires { BracketHere bytes.now numbers.now k × (at + score_most ≤ ceiling) }
     ensures { Puts score_most out.old at (scored_text (score_in bytes.now numbers.now k)) out.new result }
 {
@@ -87,7 +88,14 @@ fn put_scored(bytes: &[u8], numbers: &[i64], k: usize, out: &mut [u8], at: usize
 }
 
 // `#` and the label of part j, where it has one.
-fn put_label(bytes: &[u8], numbers: &[i64], k: usize, j: usize, out: &mut [u8], at: usize) -> usize
+fn put_label(
+    bytes: &Bytes,
+    numbers: &Numbers,
+    k: usize,
+    j: usize,
+    out: &mut [u8],
+    at: usize,
+) -> usize
     requires { PartHere bytes.now numbers.now k j × (at + label_most ≤ ceiling) }
     ensures { Puts label_most out.old at (given (label_in bytes.now numbers.now k j) label_text []) out.new result }
 {
@@ -103,7 +111,7 @@ fn put_label(bytes: &[u8], numbers: &[i64], k: usize, j: usize, out: &mut [u8], 
 }
 
 // The text of part j.
-fn put_text(bytes: &[u8], k: usize, j: usize, out: &mut [u8], at: usize) -> usize
+fn put_text(bytes: &Bytes, k: usize, j: usize, out: &mut [u8], at: usize) -> usize
     requires { ((ns : List ℤ) × PartHere bytes.now ns k j) × (at + text_limit ≤ ceiling) }
     ensures { Puts text_limit out.old at (text_at bytes.now k j) out.new result }
 {
@@ -113,7 +121,14 @@ fn put_text(bytes: &[u8], k: usize, j: usize, out: &mut [u8], at: usize) -> usiz
 }
 
 // The mass or the text of part j.
-fn put_value(bytes: &[u8], numbers: &[i64], k: usize, j: usize, out: &mut [u8], at: usize) -> usize
+fn put_value(
+    bytes: &Bytes,
+    numbers: &Numbers,
+    k: usize,
+    j: usize,
+    out: &mut [u8],
+    at: usize,
+) -> usize
     requires { PartHere bytes.now numbers.now k j × (at + value_most ≤ ceiling) }
     ensures { Puts value_most out.old at (value_text (value_in bytes.now numbers.now k j)) out.new result }
 {
@@ -128,7 +143,14 @@ fn put_value(bytes: &[u8], numbers: &[i64], k: usize, j: usize, out: &mut [u8], 
 }
 
 // Part j of bracket k.
-fn put_part(bytes: &[u8], numbers: &[i64], k: usize, j: usize, out: &mut [u8], at: usize) -> usize
+fn put_part(
+    bytes: &Bytes,
+    numbers: &Numbers,
+    k: usize,
+    j: usize,
+    out: &mut [u8],
+    at: usize,
+) -> usize
     requires { PartHere bytes.now numbers.now k j × (at + part_most ≤ ceiling) }
     ensures { Puts part_most out.old at (part_text (part_in bytes.now numbers.now k j)) out.new result }
 {
@@ -140,8 +162,8 @@ fn put_part(bytes: &[u8], numbers: &[i64], k: usize, j: usize, out: &mut [u8], a
 
 // Part j, behind a `|` where it is not the first.
 fn put_next_part(
-    bytes: &[u8],
-    numbers: &[i64],
+    bytes: &Bytes,
+    numbers: &Numbers,
     k: usize,
     j: usize,
     out: &mut [u8],
@@ -161,7 +183,7 @@ fn put_next_part(
 // ---- brackets
 
 // The parts of bracket k, split by `|`.
-fn put_parts(bytes: &[u8], numbers: &[i64], k: usize, out: &mut [u8], at: usize) -> usize
+fn put_parts(bytes: &Bytes, numbers: &Numbers, k: usize, out: &mut [u8], at: usize) -> usize
     requires { BracketHere bytes.now numbers.now k × (at + parts_most ≤ ceiling) }
     ensures { Puts parts_most out.old at (parts_text (tabled (part_in bytes.now numbers.now k) 0 (parts_field bytes.now k))) out.new result }
 {
@@ -174,8 +196,8 @@ fn put_parts(bytes: &[u8], numbers: &[i64], k: usize, out: &mut [u8], at: usize)
 
 // Bracket k between two bytes.
 fn put_between(
-    bytes: &[u8],
-    numbers: &[i64],
+    bytes: &Bytes,
+    numbers: &Numbers,
     k: usize,
     opener: u8,
     closer: u8,
@@ -191,8 +213,8 @@ fn put_between(
 }
 
 // Place j of bracket k, behind a `,` where it is not the first.
-fn put_next_place(bytes: &[u8], k: usize, j: usize, out: &mut [u8], at: usize) -> usize
-    requires { (bytes_size ≤ length bytes.now) × (k < bracket_limit) × (j < place_limit) × (at + next_place_most ≤ ceiling) }
+fn put_next_place(bytes: &Bytes, k: usize, j: usize, out: &mut [u8], at: usize) -> usize
+    requires { (k < bracket_limit) × (j < place_limit) × (at + next_place_most ≤ ceiling) }
     ensures { Puts next_place_most out.old at (next_text comma j (site_text (site_field bytes.now k j))) out.new result }
 {
     let s = areas::site(bytes, k, j);
@@ -205,8 +227,8 @@ fn put_next_place(bytes: &[u8], k: usize, j: usize, out: &mut [u8], at: usize) -
 }
 
 // The places of bracket k, split by `,`.
-fn put_places(bytes: &[u8], k: usize, out: &mut [u8], at: usize) -> usize
-    requires { (bytes_size ≤ length bytes.now) × (k < bracket_limit) × (places_field bytes.now k ≤ place_limit) × (at + places_most ≤ ceiling) }
+fn put_places(bytes: &Bytes, k: usize, out: &mut [u8], at: usize) -> usize
+    requires { (k < bracket_limit) × (places_field bytes.now k ≤ place_limit) × (at + places_most ≤ ceiling) }
     ensures { Puts places_most out.old at (places_text (tabled (place_in bytes.now k) 0 (places_field bytes.now k))) out.new result }
 {
     let mut a = at;
@@ -217,7 +239,7 @@ fn put_places(bytes: &[u8], k: usize, out: &mut [u8], at: usize) -> usize
 }
 
 // Bracket k as a declaration: `<`, the bracket, `@`, its places and `>`.
-fn put_declared(bytes: &[u8], numbers: &[i64], k: usize, out: &mut [u8], at: usize) -> usize
+fn put_declared(bytes: &Bytes, numbers: &Numbers, k: usize, out: &mut [u8], at: usize) -> usize
     requires { BracketHere bytes.now numbers.now k × (at + declared_most ≤ ceiling) }
     ensures { Puts declared_most out.old at (declared_text (bracket_in bytes.now numbers.now k)) out.new result }
 {
@@ -239,8 +261,8 @@ pub enum Shape {
 
 // Bracket k, by its shape.
 fn put_bracket(
-    bytes: &[u8],
-    numbers: &[i64],
+    bytes: &Bytes,
+    numbers: &Numbers,
     k: usize,
     shape: Shape,
     out: &mut [u8],
@@ -276,8 +298,8 @@ fn rank_of(c: usize, last: usize) -> usize
 }
 
 // The rank of bracket k.
-fn rank_at(bytes: &[u8], k: usize) -> usize
-    requires { (bytes_size ≤ length bytes.now) × (k < bracket_limit) }
+fn rank_at(bytes: &Bytes, k: usize) -> usize
+    requires { k < bracket_limit }
     ensures { result ≡ rank_in bytes.now k }
 {
     let c = areas::kind(bytes, k);
@@ -286,8 +308,8 @@ fn rank_at(bytes: &[u8], k: usize) -> usize
 }
 
 // Whether the brackets are in the order of a line.
-pub fn in_order(bytes: &[u8]) -> bool
-    requires { (bytes_size ≤ length bytes.now) × (brackets_field bytes.now ≤ bracket_limit) }
+pub fn in_order(bytes: &Bytes) -> bool
+    requires { brackets_field bytes.now ≤ bracket_limit }
     ensures { (ns : List ℤ) → result ≡ orderedb (tables_in bytes.now ns) }
 {
     let mut q = 0;
@@ -303,8 +325,8 @@ pub fn in_order(bytes: &[u8]) -> bool
 
 // Bracket k, where its rank r is the one that is asked for.
 fn put_ranked(
-    bytes: &[u8],
-    numbers: &[i64],
+    bytes: &Bytes,
+    numbers: &Numbers,
     k: usize,
     r: usize,
     q: usize,
@@ -331,8 +353,8 @@ pub struct Pen {
 
 // The brackets of rank q, none of which stands before bracket `from`.
 fn put_run(
-    bytes: &[u8],
-    numbers: &[i64],
+    bytes: &Bytes,
+    numbers: &Numbers,
     from: usize,
     q: usize,
     shape: Shape,
@@ -376,8 +398,8 @@ fn is_next(c: usize) -> bool
 }
 
 // Whether the residue with index p, if there is one, goes on with the group of the one before it.
-fn goes_on(bytes: &[u8], p: usize, n: usize) -> bool
-    requires { (bytes_size ≤ length bytes.now) × (n ≤ residue_limit) }
+fn goes_on(bytes: &Bytes, p: usize, n: usize) -> bool
+    requires { n ≤ residue_limit }
     ensures { result ≡ goes_on (tabled (residue_in bytes.now) p (n - p)) }
 {
     p < n && is_next(areas::section(bytes, p))
@@ -385,8 +407,8 @@ fn goes_on(bytes: &[u8], p: usize, n: usize) -> bool
 
 // `)` and the brackets on the range that ends at position i.
 fn put_range_end(
-    bytes: &[u8],
-    numbers: &[i64],
+    bytes: &Bytes,
+    numbers: &Numbers,
     i: usize,
     from: usize,
     out: &mut [u8],
@@ -409,8 +431,8 @@ fn put_range_end(
 
 // What closes a group of section c that ends at position i.
 fn put_ending(
-    bytes: &[u8],
-    numbers: &[i64],
+    bytes: &Bytes,
+    numbers: &Numbers,
     c: usize,
     i: usize,
     from: usize,
@@ -435,8 +457,8 @@ fn put_ending(
 
 // The residue with index p, of n, with its section and brackets.
 fn put_residue(
-    bytes: &[u8],
-    numbers: &[i64],
+    bytes: &Bytes,
+    numbers: &Numbers,
     p: usize,
     n: usize,
     from: usize,
@@ -468,8 +490,7 @@ fn put_residue(
 }
 
 // The rank of a bracket at the C-terminus.
-fn c_term_rank(bytes: &[u8]) -> usize
-    requires { bytes_size ≤ length bytes.now }
+fn c_term_rank(bytes: &Bytes) -> usize
     ensures { result ≡ c_term_rank bytes.now }
 {
     let n = areas::residues(bytes);
@@ -477,8 +498,8 @@ fn c_term_rank(bytes: &[u8]) -> usize
 }
 
 // The rank of bracket j, or that of the C-terminus where there is no such bracket.
-fn next_rank(bytes: &[u8], j: usize) -> usize
-    requires { (bytes_size ≤ length bytes.now) × (brackets_field bytes.now ≤ bracket_limit) }
+fn next_rank(bytes: &Bytes, j: usize) -> usize
+    requires { brackets_field bytes.now ≤ bracket_limit }
     ensures { (ns : List ℤ) → ReadyToWrite bytes.now ns → NoneBelow bytes.now j result }
 {
     if j < areas::brackets(bytes) {
@@ -496,8 +517,8 @@ fn residues_before(n: usize, q: usize) -> usize
 }
 
 // The first residue from index p on, before index e, that does not stand by itself; behind them all where each does.
-fn plain_end(bytes: &[u8], p: usize, e: usize) -> usize
-    requires { (bytes_size ≤ length bytes.now) × (e ≤ residue_limit) }
+fn plain_end(bytes: &Bytes, p: usize, e: usize) -> usize
+    requires { e ≤ residue_limit }
     ensures from { p ≤ result }
     ensures to { result ≤ p + (e - p) }
     ensures plain { (i : ℕ) → p ≤ i → i < result → section_field bytes.now i ≡ section_code Section.Plain }
@@ -511,8 +532,8 @@ fn plain_end(bytes: &[u8], p: usize, e: usize) -> usize
 }
 
 // The residues from index p on, of n, that stand by themselves and before bracket j: their letters at once.
-fn put_bare(bytes: &[u8], p: usize, n: usize, j: usize, out: &mut [u8], at: usize) -> Pen
-    requires { (bytes_size ≤ length bytes.now) × (brackets_field bytes.now ≤ bracket_limit) × (n ≤ residue_limit) × (at + (n - p) ≤ ceiling) × (p ≤ n) }
+fn put_bare(bytes: &Bytes, p: usize, n: usize, j: usize, out: &mut [u8], at: usize) -> Pen
+    requires { (brackets_field bytes.now ≤ bracket_limit) × (n ≤ residue_limit) × (at + (n - p) ≤ ceiling) × (p ≤ n) }
     ensures { (p ≤ result.next) × ((ns : List ℤ) → ReadyToWrite bytes.now ns → Spells bytes.now ns n j out.old p at out.new result.next result.place) }
 {
     let e = residues_before(n, next_rank(bytes, j));
@@ -522,7 +543,7 @@ fn put_bare(bytes: &[u8], p: usize, n: usize, j: usize, out: &mut [u8], at: usiz
 }
 
 // The sequence: residues by themselves, then one with a section or brackets, and so on. The index goes behind those by themselves at once: no step of one.
-fn put_sequence(bytes: &[u8], numbers: &[i64], from: usize, out: &mut [u8], at: usize) -> Pen
+fn put_sequence(bytes: &Bytes, numbers: &Numbers, from: usize, out: &mut [u8], at: usize) -> Pen
     requires { ReadyToWrite bytes.now numbers.now × (from ≤ brackets_field bytes.now) × ((k : ℕ) → k < from → rank_in bytes.now k < rank_of OnResidue 1) × RoomFor bytes.now from residues_most at }
     ensures { Walks bytes.now residues_most from (c_term_rank bytes.now) out.old at (sequence_text (tables_in bytes.now numbers.now).brackets 1 (tables_in bytes.now numbers.now).residues) out.new result.place result.next }
 {
@@ -550,8 +571,8 @@ fn put_sequence(bytes: &[u8], numbers: &[i64], from: usize, out: &mut [u8], at: 
 
 // The brackets of rank q and the byte behind them, where there are any.
 fn put_closed(
-    bytes: &[u8],
-    numbers: &[i64],
+    bytes: &Bytes,
+    numbers: &Numbers,
     from: usize,
     q: usize,
     shape: Shape,
@@ -572,7 +593,7 @@ fn put_closed(
 }
 
 // `-` and the C-terminal brackets, where there are any.
-fn put_c_term(bytes: &[u8], numbers: &[i64], from: usize, out: &mut [u8], at: usize) -> usize
+fn put_c_term(bytes: &Bytes, numbers: &Numbers, from: usize, out: &mut [u8], at: usize) -> usize
     requires { ReadyToWrite bytes.now numbers.now × (from ≤ brackets_field bytes.now) × ((i : ℕ) → i < from → rank_in bytes.now i < c_term_rank bytes.now) × RoomFor bytes.now from 1 at }
     ensures { Puts (bracket_most * (brackets_field bytes.now - from) + 1) out.old at (led_by dash (run_text Shape.Square (c_term_rank bytes.now) (tables_in bytes.now numbers.now).brackets)) out.new result }
 {
@@ -591,7 +612,7 @@ fn put_c_term(bytes: &[u8], numbers: &[i64], from: usize, out: &mut [u8], at: us
 }
 
 // What stands before the sequence: nothing where the first bracket stands in it or behind it.
-fn put_front(bytes: &[u8], numbers: &[i64], out: &mut [u8], at: usize) -> Pen
+fn put_front(bytes: &Bytes, numbers: &Numbers, out: &mut [u8], at: usize) -> Pen
     requires { ReadyToWrite bytes.now numbers.now × RoomFor bytes.now 0 front_most at }
     ensures { Walks bytes.now front_most 0 (rank_of OnResidue 1) out.old at (front_text (tables_in bytes.now numbers.now).brackets) out.new result.place result.next }
 {
@@ -631,7 +652,7 @@ fn put_front(bytes: &[u8], numbers: &[i64], out: &mut [u8], at: usize) -> Pen
 }
 
 // The canonical line from a place on, as much of it as fits into the output.
-pub fn put_line(bytes: &[u8], numbers: &[i64], out: &mut [u8], at: usize) -> usize
+pub fn put_line(bytes: &Bytes, numbers: &Numbers, out: &mut [u8], at: usize) -> usize
     requires { Bounds bytes.now numbers.now × InOrder (tables_in bytes.now numbers.now) × (at + line_most ≤ ceiling) }
     ensures { Puts line_most out.old at (canonical (tables_in bytes.now numbers.now)) out.new result }
 {
@@ -641,7 +662,7 @@ pub fn put_line(bytes: &[u8], numbers: &[i64], out: &mut [u8], at: usize) -> usi
 }
 
 // The canonical line, as much of it as fits into the output, and its length.
-pub fn write_line(bytes: &[u8], numbers: &[i64], out: &mut [u8]) -> usize
+pub fn write_line(bytes: &Bytes, numbers: &Numbers, out: &mut [u8]) -> usize
     requires { Bounds bytes.now numbers.now × InOrder (tables_in bytes.now numbers.now) }
     ensures { WholeLine (canonical (tables_in bytes.now numbers.now)) out.old out.new result }
 {

@@ -13,7 +13,7 @@ loop-j-init c = puts_of (no_places _) (puts_none _ _)
 pub put_next_place-a-requires : goal.put_next_place-a-requires
 put_next_place-a-requires c =
     let many = c.places-j-end.ensures.0 in
-    (c.requires.0, c.requires.1, omega (arith, many, c.requires.2), omega (arith, many, c.requires.2))
+    (c.requires.0, omega (arith, many, c.requires.1), omega (arith, many, c.requires.1))
 
 pub loop-j-preserved : goal.loop-j-preserved
 loop-j-preserved c =
@@ -25,4 +25,4 @@ returns c =
     let a = c.args in
     let many = c.places-j-end.ensures.0 in
     let all : l.j ≡ c.places-j-end.result = omega arith in
-    puts_of (ap (λ c. places_text (tabled (place_in a.bytes.now a.k) 0 c)) (all ∙ many)) (puts_within (omega (arith, many, c.requires.2)) l.invariant)
+    puts_of (ap (λ c. places_text (tabled (place_in a.bytes.now a.k) 0 c)) (all ∙ many)) (puts_within (omega (arith, many, c.requires.1)) l.invariant)

@@ -5,16 +5,13 @@ use Rattle.writer.proofs.Walking.{room_one}
 use Rattle.writer.proofs.RunLaws.{run_start, run_more, run_stop, run_over}
 use Rattle.writer.proofs.put_run.Goals as goal
 
-pub brackets-m-requires : goal.brackets-m-requires
-brackets-m-requires c = c.requires.0.bounds.bytes_room
-
 pub loop-j-init : goal.loop-j-init
 loop-j-init c = run_start _ _ _ _ _ _ _ _ c.brackets-m.ensures.0 c.requires.1 c.requires.2
 
 pub rank_at-r-requires : goal.rank_at-r-requires
 rank_at-r-requires c =
     let b = c.requires.0.bounds in
-    (b.bytes_room, omega (arith, b.few_brackets_lem, c.brackets-m.ensures.0))
+    omega (arith, b.few_brackets_lem, c.brackets-m.ensures.0)
 
 pub returns-then-q-r : goal.returns-then-q-r
 returns-then-q-r c = run_stop _ _ _ _ _ _ _ _ c.loop-j.invariant c.requires.0 c.loop-j-test.true c.rank_at-r.ensures c.if-q-r.true

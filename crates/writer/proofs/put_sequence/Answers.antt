@@ -6,9 +6,6 @@ use Rattle.writer.proofs.Walking.{walks_still, room_less}
 use Rattle.writer.proofs.LineLaws.{spelt_start, spelt_more, spelt_room, spelt_over}
 use Rattle.writer.proofs.put_sequence.Goals as goal
 
-pub residues-n-requires : goal.residues-n-requires
-residues-n-requires c = c.requires.0.bounds.bytes_room
-
 pub loop-p-init : goal.loop-p-init
 loop-p-init c = spelt_start _ _ _ _ _ _ (walks_still (puts_none _ _) c.requires.1 c.requires.2)
 
@@ -16,7 +13,7 @@ pub put_bare-letters-requires : goal.put_bare-letters-requires
 put_bare-letters-requires c =
     let b = c.requires.0.bounds in
     let few : c.residues-n.result ≤ residue_limit = omega (arith, b.few_residues, c.residues-n.ensures.0) in
-    (b.bytes_room, b.few_brackets_lem, few, omega (arith, (spelt_room _ _ _ _ _ _ c.loop-p.invariant few c.requires.3).fits), omega arith)
+    (b.few_brackets_lem, few, omega (arith, (spelt_room _ _ _ _ _ _ c.loop-p.invariant few c.requires.3).fits), omega arith)
 
 pub returns-then-n-letters : goal.returns-then-n-letters
 returns-then-n-letters c =

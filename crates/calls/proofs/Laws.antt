@@ -1,11 +1,13 @@
 -- From the refusals that every call tries to its answer.
 use mathlib.Core.Path.{◌≡◌, refl, sym, ap, ap₂, ◌∙◌, subst}
 use Rattle.std.specs.Prelude.{Result, Ok, Err}
-use mathlib.Core.Bool.{Bool, true, false, cond, true≢false}
+use Rattle.std.proofs.Common.{length-take-le}
+use mathlib.Core.Bool.{Bool, true, false, cond, ◌||◌, true≢false}
 use mathlib.Core.List.{List, map}
-use Prim.Native.Nat.{ℕ}
+use Prim.Native.Nat.{ℕ, ◌<◌, ◌≤◌}
 use native.Mathlib.Omega.{arith}
-use lib.Dec.{eqb}
+use borrow.Author.Tests.{lt-ltb, le-ltb, ltb-false}
+use lib.Dec.{ltb, eqb}
 use lib.IntN.{ℤ}
 use lib.ListN.{length, take}
 use lib.Seq.{take-take}
@@ -29,6 +31,16 @@ use Rattle.positions.specs.Marked.{Filled}
 use Rattle.calls.specs.Held.{length_said, held_said, Grounds, Sized, Held}
 
 -- ---- 13 and 14
+pub short_numbers : (bs : List ℕ) (ns : List ℤ) → bytes_size ≤ length bs → length ns < numbers_size → refuses 13 0 ≡ length_said bs ns
+short_numbers bs ns h k = sym (rw (le-ltb (length bs) bytes_size h, lt-ltb (length ns) numbers_size k) refl)
+
+pub long_both : (bs : List ℕ) (ns : List ℤ) → bytes_size ≤ length bs → numbers_size ≤ length ns → too_short bs ns ≡ false
+long_both bs ns h k = rw (le-ltb (length bs) bytes_size h, le-ltb (length ns) numbers_size k)
+
+pub sized_of : {bs : List ℕ} {ns : List ℤ} {b : List ℕ} {n : List ℤ} → bytes_size ≤ length bs → numbers_size ≤ length ns → b ≡ take bytes_size bs → n ≡ take numbers_size ns
+    → Sized bs ns b n
+sized_of {bs} {ns} h k e f = record { long = long_both bs ns h k; bytes = e; numbers = f }
+
 -- a refusal of another kind of answer is the same refusal
 pub as_refused : {A B : Type 0} {m q n p : ℕ} → ◌≡◌ {A = Said A} (refuses m q) (refuses n p) → ◌≡◌ {A = Said B} (refuses m q) (refuses n p)
 as_refused e = ap₂ refuses (same_number_lem e) (same_place e)
@@ -57,6 +69,9 @@ held_of bs ns a e =
     record { long = a; tables = e; bounds = h.bounds; few = h.tables_within.few_copies; below = (demands.demand_3_in bs ns e).total_below }
 
 -- ---- the arrays at the front of what is lent hold what is lent
+le_of : {k m : ℕ} → m ≡ k → k ≤ m
+le_of e = omega (arith, e)
+
 module _ (bs : List ℕ) (ns : List ℤ) {b : List ℕ} {n : List ℤ} (z : Sized bs ns b n) where
   bytes_front : take bytes_size b ≡ take bytes_size bs
   bytes_front = ap (take bytes_size) z.bytes ∙ take-take bytes_size bytes_size bs (omega arith)
@@ -64,41 +79,52 @@ module _ (bs : List ℕ) (ns : List ℤ) {b : List ℕ} {n : List ℤ} (z : Size
   numbers_front : take numbers_size n ≡ take numbers_size ns
   numbers_front = ap (take numbers_size) z.numbers ∙ take-take numbers_size numbers_size ns (omega arith)
 
-  line_there : SomeLine bs ns → SomeLine b n
+  abbrev line_there : SomeLine bs ns → SomeLine b n
   line_there w = record { text = w.text; line = w.line; reads = w.reads; bytes = bytes_front ∙ w.bytes; numbers = numbers_front ∙ w.numbers }
 
   line_back : SomeLine b n → SomeLine bs ns
   line_back w = record { text = w.text; line = w.line; reads = w.reads; bytes = sym bytes_front ∙ w.bytes; numbers = sym numbers_front ∙ w.numbers }
 
+  -- they are long enough
+  long_there : too_short b n ≡ false
+  long_there = go (ltb (length bs) bytes_size) (ltb (length ns) numbers_size) refl refl z.long
+    where
+      go : (x y : Bool) → ltb (length bs) bytes_size ≡ x → ltb (length ns) numbers_size ≡ y → (x || y) ≡ false → too_short b n ≡ false
+      go true y e f q = absurd (true≢false q)
+      go false true e f q = absurd (true≢false q)
+      go false false e f q =
+          long_both b n (subst (λ l. bytes_size ≤ length l) (sym z.bytes) (le_of (length-take-le bytes_size bs (ltb-false (length bs) bytes_size e))))
+          (subst (λ l. numbers_size ≤ length l) (sym z.numbers) (le_of (length-take-le numbers_size ns (ltb-false (length ns) numbers_size f))))
+
   -- they are tables where what is lent is
   pub taken_there : are_tables b n ≡ true → are_tables bs ns ≡ true
-  taken_there e = (demands.exactly_tables bs ns).1 (line_back ((demands.exactly_tables b n).0 e))
+  taken_there e = (demands.demand_2.exactly_tables bs ns).1 (line_back ((demands.demand_2.exactly_tables b n).0 e))
 
   pub not_there : are_tables b n ≡ false → are_tables bs ns ≡ false
-  not_there e = by_test (are_tables bs ns) (λ f. absurd (true≢false (sym ((demands.exactly_tables b n).1 (line_there ((demands.exactly_tables bs ns).0 f))) ∙ e))) (λ f. f)
+  not_there e = by_test (are_tables bs ns) (λ f. absurd (true≢false (sym ((demands.demand_2.exactly_tables b n).1 (line_there ((demands.demand_2.exactly_tables bs ns).0 f))) ∙ e))) (λ f. f)
 
   -- and hold the same
   pub same_tables : are_tables bs ns ≡ true → tables_in b n ≡ tables_in bs ns
   same_tables e =
-      let w = (demands.exactly_tables bs ns).0 e in
+      let w = (demands.demand_2.exactly_tables bs ns).0 e in
       let v = line_there w in
       (accepted_held b n v.text v.line v.reads v.bytes v.numbers).tables ∙ sym (accepted_held bs ns w.text w.line w.reads w.bytes w.numbers).tables
 
-  pub held_so : too_short b n ≡ false → are_tables b n ≡ true → Held bs ns b n
-  held_so long e =
+  pub held_so : are_tables b n ≡ true → Held bs ns b n
+  held_so e =
       let f = taken_there e in
-      record { grounds = held_of b n long e; same = same_tables f; tried = z.long; taken = f }
+      record { grounds = held_of b n long_there e; same = same_tables f; tried = z.long; taken = f }
 
   pub refused_14 : are_tables b n ≡ false → refuses 14 0 ≡ held_said bs ns
   refused_14 e = sym (rw (z.long, not_there e) refl)
 
 -- tables are answered by themselves
-pub answers_here : {A : Type 0} {bs : List ℕ} {ns : List ℤ} (f : Tables → Said A) → too_short bs ns ≡ false → are_tables bs ns ≡ true → over_tables bs ns f ≡ f (tables_in bs ns)
-answers_here f h k = rw (h, k)
+pub answers_here : {A : Type 0} (bs : List ℕ) (ns : List ℤ) (f : Tables → Said A) → too_short bs ns ≡ false → are_tables bs ns ≡ true → over_tables bs ns f ≡ f (tables_in bs ns)
+answers_here bs ns f h k = rw (h, k)
 
 -- what the call answers, by the arrays
 pub answers : {A : Type 0} {bs : List ℕ} {ns : List ℤ} {b : List ℕ} {n : List ℤ} (f : Tables → Said A) → Held bs ns b n → over_tables bs ns f ≡ f (tables_in b n)
-answers f h = answers_here f h.tried h.taken ∙ ap f (sym h.same)
+answers {bs = bs} {ns} f h = answers_here bs ns f h.tried h.taken ∙ ap f (sym h.same)
 
 -- ---- the total
 pub weighed_so : (t : Tables) {w v : Result ℤ Lacking} → w ≡ weight_of t → w ≡ v → says_weight v ≡ weighed t (total t)

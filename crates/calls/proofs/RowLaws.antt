@@ -45,7 +45,7 @@ rows_are h = ap (rows_from 1) h.table
 pub rows_said_lem : {bs : List ℕ} {ns : List ℤ} {k : ℕ} {tab : List ℕ} (out : List Site) → RowsTable bs ns (length out) tab k
     → good (length (rows_from 1 (lists_in tab k))) ≡ rows_said bs ns out
 rows_said_lem {bs} {ns} {k} {tab} out h =
-    ap (λ l. good (length l)) (rows_are h) ∙ sym (answers_here (λ t. good (length (rows_of t))) h.tried h.taken)
+    ap (λ l. good (length l)) (rows_are h) ∙ sym (answers_here _ _ (λ t. good (length (rows_of t))) h.tried h.taken)
     ∙ rw (le-ltb (length out) row_limit h.roomy) refl
 
 pub rows_after_lem : {bs : List ℕ} {ns : List ℤ} {k : ℕ} {tab : List ℕ} (out : List Site) → RowsTable bs ns (length out) tab k

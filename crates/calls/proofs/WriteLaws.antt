@@ -32,19 +32,19 @@ short_13 bs ns out e h =
     said_so bs ns out (Err e) out (sym said) refl refl
 
 -- areas that are long enough, at the front of which these arrays stand
-module _ (bs : List ℕ) (ns : List ℤ) (out : List ℕ) {b : List ℕ} {n : List ℤ} (z : Sized bs ns b n) {line : List ℕ} where
+module _ (bs : List ℕ) (ns : List ℤ) (out : List ℕ) {b : List ℕ} {n : List ℤ} (z : Sized bs ns b n) where
   long_enough : writes bs ns out ≡ cond (are_tables bs ns) (fitting (canonical (tables_in bs ns)) (length out)) (refuses 14 0)
   long_enough = rw z.long
 
   -- none was found: they are none
-  pub no_tables_14 : LineOf b n line None → WriteSays bs ns out (Err (record { reason = NoTables; place = 0 })) out
+  pub no_tables_14 : are_tables b n ≡ false → WriteSays bs ns out (Err (record { reason = NoTables; place = 0 })) out
   no_tables_14 w =
       said_so bs ns out (Err (record { reason = NoTables; place = 0 })) out {s = refuses 14 0}
       (long_enough ∙ ap (λ b. cond b (fitting (canonical (tables_in bs ns)) (length out)) (refuses 14 0)) (not_there bs ns z w))
       refl refl
 
   -- a line was found: they are tables
-  module _ {r : ℕ} (w : LineOf b n line (Some r)) where
+  module _ {line : List ℕ} {r : ℕ} (w : LineOf b n line (Some r)) where
     same : canonical (tables_in b n) ≡ canonical (tables_in bs ns)
     same = ap canonical (same_tables bs ns z (taken_there bs ns z w.0))
 

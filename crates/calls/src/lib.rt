@@ -238,11 +238,7 @@ fn competing_by(bytes: &Bytes, numbers: &Numbers) -> Why
     let f = find_floaters(bytes, numbers);
     let mut tab = [0u8; Placement::ROWS];
     fill_table(bytes, numbers, f, &mut tab);
-    let m = reason::competing(&tab, f.count);
-    Why {
-        count: m.n,
-        at: m.at,
-    }
+    reason::competing(&tab, f.count)
 }
 
 // Why there is no placement: "a set of floaters whose permitted positions, taken together, are fewer than the set".

@@ -1,8 +1,8 @@
 // The classes of bytes, and runs of bytes of one class in a line.
 #![tactic(auto)]
 
-ghost use Rattle.std.specs.Prelude.{◌≡◌, ℕ, Bool, ◌+◌, ◌<◌, ◌≤◌, eqb, length, drop};
-ghost use Rattle.scope.specs.Bytes.{byte_limit, is_printable, is_upper, is_lower, is_letter, is_digit, is_alnum, is_sign, is_opening, is_shutting, same_folded, upper as inUpper};
+ghost use Rattle.std.specs.Prelude.{◌≡◌, ℕ, Bool, ◌+◌, ◌≤◌, length, drop};
+ghost use Rattle.scope.specs.Bytes.{is_printable, is_letter, is_digit, is_alnum, is_sign, is_opening, is_shutting, same_folded, upper as inUpper};
 ghost use Rattle.scope.specs.Lists.{same, part};
 ghost use Rattle.scope.specs.Content.{is_plain};
 ghost use Rattle.classes.specs.Runs.{span};

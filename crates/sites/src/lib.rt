@@ -30,6 +30,7 @@ pub fn list_at(line: &[u8], at: usize) -> Result<Listed, Stuck>
     let mut i = at;
     let mut many = 0;
     let mut over = None;
+    // each turn jumps behind a whole place
     loop {
         let next = place_at(line, i)?;
         over = first_over(over, many, i);

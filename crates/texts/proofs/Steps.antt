@@ -1,7 +1,7 @@
 -- Laws of the step of a text, and of `scan_deep` at a place. Assumes nothing.
 use Prim.Native.Nat.{ℕ, suc, ◌+◌, ◌≤◌, ◌<◌}
 use mathlib.Core.Path.{◌≡◌, refl, sym, ap, ◌∙◌}
-use mathlib.Core.Bool.{Bool, true, false, not, cond, ◌&&◌, ◌||◌, true≢false, and-true}
+use mathlib.Core.Bool.{Bool, true, false, not, cond, ◌&&◌, ◌||◌, true≢false}
 use mathlib.Core.Option.{some}
 use mathlib.Core.List.{List, [], ◌∷◌}
 use native.Mathlib.Numerals.{add-one}
@@ -11,7 +11,6 @@ use lib.ListN.{length, get_or, drop, drop_of_length-le}
 use lib.Seq.{drop-cons, drop-drop}
 use borrow.Author.Tests.{ne_eqb, eqb-true, not-true}
 use Rattle.std.specs.Prelude.{Option as Perhaps}
-use Rattle.basics.specs.Each.{NoneOf}
 use Rattle.basics.specs.Tests.{both_of}
 use Rattle.scope.specs.Bytes.{is_printable, is_letter, is_opening, is_shutting}
 use Rattle.scope.specs.Lists.{given}
@@ -94,11 +93,6 @@ scan_at hashes cs s i d h = rw (drop-cons s i 0, add-one)
 pub scan_end : (hashes : Bool) (cs s : List ℕ) (i : ℕ) (d : Perhaps ℕ) → length s ≤ i → scan_deep hashes cs (drop i s) i d ≡ stopped_deep cs i d
 unfolding scan_deep
 scan_end hashes cs s i d h = rw (drop_of_length-le s h)
-
--- a byte that opens and closes nothing is plain inside a pair where it is printable
-pub inner_else : (b : ℕ) → NoneOf (125 ∷ 123 ∷ 93 ∷ 91 ∷ []) b → is_printable b ≡ is_inner b
-unfolding is_inner
-inner_else b ((((_, p), q), r), s) = simp (ne_eqb _ _ p, ne_eqb _ _ q, ne_eqb _ _ r, ne_eqb _ _ s, and-true)
 
 -- a letter is plain inside a pair
 pub letter_inner : (b : ℕ) → is_letter b ≡ true → true ≡ is_inner b

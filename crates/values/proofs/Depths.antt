@@ -70,8 +70,3 @@ module _ (p : ℕ → Bool) (quiet : (b : ℕ) → p b ≡ true → Quiet b) whe
       (ap (too_deep 0 from) (rw (x, take-add (scan - from) (to - scan) (drop from line), drop-drop (scan - from) from line))
       ∙ deep_past (drop from line) (scan - from) 0 from (take (to - scan) (drop (from + (scan - from)) line)) (omega arith)
       ∙ rw y))
-
--- and so has none at all
-pub empty_deep : (i : ℕ) → None ≡ coded (least (too_deep 0 i []))
-unfolding least too_deep
-empty_deep i = refl

@@ -26,9 +26,10 @@ use Rattle.sheet.specs.Fields.{part_row}
 use Rattle.values.specs.declared.Value.{Value}
 use Rattle.labels.specs.declared.Label.{Label}
 use Rattle.inside.specs.declared.Parts.{Parts}
-use Rattle.inside.specs.declared.Next.TheVariants.{Lost, Closed, More}
+use Rattle.inside.specs.declared.Next.TheVariants.{Closed, More}
+use Rattle.std.specs.Prelude.{Ok}
 use Rattle.inside.specs.Says.{PartsAre}
-use Rattle.inside.specs.Progress.{with_value, with_label, byte_behind, behind_part, noted_code, text_place, value_row}
+use Rattle.inside.specs.Progress.{lost_at, byte_behind, behind_part}
 use Rattle.inside.proofs.Lists.{none_long}
 
 -- ---- whether a reference may stand here
@@ -53,7 +54,7 @@ module _ (line : List ℕ) (at : ℕ) (labels : Bool) where
 
 -- ---- the byte behind a part
 module _ (line : List ℕ) (shut : ℕ) (ref : Bool) (next : ℕ) (s : Parts) where
-  pub behind_end : length line ≤ next → Lost next ≡ behind_part line shut ref next s
+  pub behind_end : length line ≤ next → lost_at next ≡ behind_part line shut ref next s
   unfolding behind_part
   behind_end h = sym (rw (le-ltb next (length line) h))
 
@@ -61,19 +62,19 @@ module _ (line : List ℕ) (shut : ℕ) (ref : Bool) (next : ℕ) (s : Parts) wh
   unfolding behind_part
   behind_byte h = rw (lt-ltb next (length line) h)
 
-  pub byte_shuts : next < length line → get_or line next 0 ≡ shut → Closed (next + 1) s ≡ behind_part line shut ref next s
+  pub byte_shuts : next < length line → get_or line next 0 ≡ shut → Ok (Closed (next + 1) s) ≡ behind_part line shut ref next s
   unfolding byte_behind
   byte_shuts h e = sym (behind_byte h ∙ rw (eq-eqb (get_or line next 0) shut e))
 
-  pub byte_other : next < length line → (get_or line next 0 ≡ shut → ⊥) → (get_or line next 0 ≡ bar → ⊥) → Lost next ≡ behind_part line shut ref next s
+  pub byte_other : next < length line → (get_or line next 0 ≡ shut → ⊥) → (get_or line next 0 ≡ bar → ⊥) → lost_at next ≡ behind_part line shut ref next s
   unfolding byte_behind
   byte_other h e f = sym (behind_byte h ∙ rw (ne_eqb (get_or line next 0) shut e, ne_eqb (get_or line next 0) bar f))
 
-  pub byte_refused : next < length line → (get_or line next 0 ≡ shut → ⊥) → ref ≡ true → Lost next ≡ behind_part line shut ref next s
+  pub byte_refused : next < length line → (get_or line next 0 ≡ shut → ⊥) → ref ≡ true → lost_at next ≡ behind_part line shut ref next s
   unfolding byte_behind
   byte_refused h e g = sym (behind_byte h ∙ rw (ne_eqb (get_or line next 0) shut e, g, and-false (eqb (get_or line next 0) bar)))
 
-  pub byte_splits : next < length line → (get_or line next 0 ≡ shut → ⊥) → get_or line next 0 ≡ bar → ref ≡ false → More (next + 1) s ≡ behind_part line shut ref next s
+  pub byte_splits : next < length line → (get_or line next 0 ≡ shut → ⊥) → get_or line next 0 ≡ bar → ref ≡ false → Ok (More (next + 1) s) ≡ behind_part line shut ref next s
   unfolding byte_behind
   byte_splits h e f g = sym (behind_byte h ∙ rw (ne_eqb (get_or line next 0) shut e, eq-eqb (get_or line next 0) bar f, g))
 
@@ -101,44 +102,3 @@ module _ (s : Parts) where
   pub sort_named : s.refers ≡ false → s.info ≡ false → (s.labels ≡ 0 → ⊥) → (line : List ℕ) (least : ℕ) (k : Bracket ℕ) → PartsAre line least s k.parts → 2 ≡ sort_of k
   unfolding sort_code
   sort_named e f g line least k w = sym (let z : sort_code s.refers s.info s.labels ≡ 2 = rw (e, f, ne_eqb s.labels 0 g) in z) ∙ sort_code_lem line least s k w
-
--- ---- the parts, counted
--- a number that was handed over
-pub back : (r : ℤ) {z : ℤ} → mag r < 2 ^ hbits w64 → r ≡ z → to_z w64 (of_z w64 r) ≡ z
-back r h e = to_z-of_z {w = w64} {z = r} (record { sfits = h }) ∙ e
-
-pub value_counted : (s : Parts) (v : Value) (least : ℕ) {info key refers ref : Bool} (points : ℤ) → key ≡ eqb (key_code v.key) (key_code Info) → info ≡ (s.info && key)
-    → ref ≡ eqb v.code reference_code → refers ≡ cond (eqb s.count 0) ref s.refers → points ≡ s.points
-    → record { count = s.count + 1; labels = s.labels; info = info; refers = refers; score = s.score; points = points; least = least } ≡ with_value s v least
-value_counted s v least points ek ei ef er ep =
-    ap₂ (λ x y. record { count = s.count + 1; labels = s.labels; info = x; refers = y; score = s.score; points = points; least = least })
-    (ei ∙ ap (λ z. s.info && z) ek) (er ∙ ap (λ z. cond (eqb s.count 0) z s.refers) ef)
-    ∙ ap (λ z. record {
-      count = s.count + 1;
-      labels = s.labels;
-      info = s.info && eqb (key_code v.key) (key_code Info);
-      refers = cond (eqb s.count 0) (eqb v.code reference_code) s.refers;
-      score = s.score;
-      points = z;
-      least = least;
-    }) ep
-
-pub label_counted : (s : Parts) (l : Label) (least : ℕ) {score : ℕ} {points : ℤ} → score ≡ cond (eqb s.score 0) l.score s.score
-    → points ≡ cond (eqb s.score 0) l.points s.points
-    → record { count = s.count; labels = s.labels + 1; info = s.info; refers = s.refers; score = score; points = points; least = least } ≡ with_label s l least
-label_counted s l least es ep =
-    ap₂ (λ x y. record { count = s.count; labels = s.labels + 1; info = s.info; refers = s.refers; score = x; points = y; least = least }) es ep
-
--- ---- rows
-pub stored_row : {parts' : List ℕ} (parts : List ℕ) (stored : Bool) (m a b d e : ℕ) (v : Value) → stored ≡ true → a ≡ noted_code v.code → b ≡ key_code v.key
-    → d ≡ text_place v.code v.from → e ≡ text_place v.code v.to → parts' ≡ sets parts (m * part_fields) (part_row a b v.decimals d e)
-    → parts' ≡ cond stored (sets parts (m * part_fields) (value_row v)) parts
-stored_row parts stored m a b d e v s ea eb ed ee p =
-    p
-    ∙ ap₂ (λ x y. sets parts (m * part_fields) (part_row x y v.decimals d e)) ea eb
-    ∙ ap₂ (λ x y. sets parts (m * part_fields) (part_row (noted_code v.code) (key_code v.key) v.decimals x y)) ed ee
-    ∙ sym (pick_true stored (sets parts (m * part_fields) (value_row v)) parts s)
-
--- a place stays a place
-pub place_fits : (c i : ℕ) {r : ℕ} → r ≡ text_place c i → i < wide_limit → r < wide_limit
-place_fits c i e h = rw e (branch (λ x. x < wide_limit) (eqb c text_code) h (omega arith))

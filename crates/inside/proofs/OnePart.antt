@@ -20,85 +20,62 @@ use Rattle.scope.specs.Tables.{score_of}
 use Rattle.scope.specs.Layout.{mass_code, reference_code, value_code}
 use Rattle.basics.specs.Each.{each_snoc, each_front, each_back}
 use Rattle.basics.specs.Lists.{flat_snoc}
-use Rattle.sheet.specs.Rows.{text_from, text_to, decimals_noted, mass_noted, part_note, Stands, score_noted, points_noted}
+use Rattle.sheet.specs.Rows.{text_from, text_to, decimals_noted, mass_noted, part_note, AsRead, Stands}
 use Rattle.dues.specs.Ranks.{code, lowest}
 use Rattle.dues.specs.Lines.{over_rank, part_codes}
 use Rattle.values.specs.declared.Value.{Value as Found}
-use Rattle.values.specs.Says.{wide_code, code_of, from_of, EndsAt, IsValue}
+use Rattle.values.specs.Says.{body_of, body_code, number_in, from_of, EndsAt, IsValue}
+use Rattle.values.proofs.Bodies.{body_coded, body_decimals, body_millionths}
 use Rattle.labels.specs.declared.Label.{Label as Named}
-use Rattle.labels.specs.Says.{IsLabel}
+use Rattle.labels.specs.Says.{score_kept, IsLabel}
 use Rattle.inside.specs.declared.Parts.{Parts}
 use Rattle.inside.specs.Says.{PartsAre}
-use Rattle.inside.specs.Progress.{with_value, with_label, noted_code, text_place, value_row}
+use Rattle.inside.specs.Progress.{with_value, with_label, score_or, refers_body, text_place, value_row}
 use Rattle.inside.proofs.Lists.{length_snoc, all_snoc, refers_snoc, given_some, score_snoc}
 use Rattle.inside.proofs.Codes.{fifth, codes_more, codes_label}
 
 -- ---- a value
--- its code tells a reference
-code_refers : (w : Value ℕ) → eqb (code_of w) reference_code ≡ is_reference w
-code_refers (mass n) = go (in_range n)
-  where
-    go : (t : Bool) → eqb (cond t mass_code wide_code) reference_code ≡ false
-    go true = refl
-    go false = refl
-code_refers (text t) = refl
-code_refers reference = refl
-code_refers (composition t n) = refl
+-- its body tells a reference
+body_refers : (q : Part ℕ) (w : Value ℕ) → refers_body (body_of q w) ≡ is_reference w
+body_refers q (mass n) = refl
+body_refers q (text t) = refl
+body_refers q reference = refl
+body_refers q (composition t n) = refl
 
 module _ (line : List ℕ) (at : ℕ) (v : Found) (q : Part ℕ) (w : IsValue line at v q) where
-  pub value_refers : eqb v.code reference_code ≡ is_reference q.value
-  value_refers = ap (λ z. eqb z.code reference_code) w.is ∙ code_refers q.value
+  pub value_refers : refers_body v.body ≡ is_reference q.value
+  value_refers = ap (λ z. refers_body z.body) w.is ∙ body_refers q q.value
 
   -- its row
-  value_noted : noted_code v.code ≡ value_code q.value
-  value_noted = ap (λ z. noted_code z.code) w.is ∙ go q.value
+  from_noted : text_place v.body v.from ≡ text_from q q.value
+  from_noted = ap (λ z. text_place z.body z.from) w.is ∙ go q.value w.stands.as_read
     where
-      ranged : (t : Bool) → noted_code (cond t mass_code wide_code) ≡ mass_code
-      ranged true = refl
-      ranged false = refl
+      go : (x : Value ℕ) → AsRead x → text_place (body_of q x) (from_of q x) ≡ text_from q x
+      go (mass n) r = refl
+      go (text t) r = refl
+      go reference r = refl
+      go (composition t n) r = absurd r
 
-      go : (x : Value ℕ) → noted_code (code_of x) ≡ value_code x
-      go (mass n) = ranged (in_range n)
-      go (text t) = refl
-      go reference = refl
-      go (composition t n) = refl
-
-  from_noted : text_place v.code v.from ≡ text_from q q.value
-  from_noted = ap (λ z. text_place z.code z.from) w.is ∙ go q.value
+  to_noted : text_place v.body v.to ≡ text_to q q.value
+  to_noted = ap (λ z. text_place z.body v.to) w.is ∙ go q.value w.stands.as_read refl w.ends
     where
-      ranged : (t : Bool) (i : ℕ) → text_place (cond t mass_code wide_code) i ≡ 0
-      ranged true i = refl
-      ranged false i = refl
-
-      go : (x : Value ℕ) → text_place (code_of x) (from_of q x) ≡ text_from q x
-      go (mass n) = ranged (in_range n) n.at
-      go (text t) = refl
-      go reference = refl
-      go (composition t n) = refl
-
-  to_noted : text_place v.code v.to ≡ text_to q q.value
-  to_noted = ap (λ z. text_place z.code v.to) w.is ∙ go q.value refl w.ends
-    where
-      ranged : (t : Bool) (i : ℕ) → text_place (cond t mass_code wide_code) i ≡ 0
-      ranged true i = refl
-      ranged false i = refl
-
-      go : (x : Value ℕ) → q.value ≡ x → EndsAt q v.to x → text_place (code_of x) v.to ≡ text_to q x
-      go (mass n) e h = ranged (in_range n) v.to
-      go (text t) e h = h ∙ ap (text_to q) e
-      go reference e h = refl
-      go (composition t n) e h = refl
+      go : (x : Value ℕ) → AsRead x → q.value ≡ x → EndsAt q v.to x → text_place (body_of q x) v.to ≡ text_to q x
+      go (mass n) r e h = refl
+      go (text t) r e h = h ∙ ap (text_to q) e
+      go reference r e h = refl
+      go (composition t n) r e h = absurd r
 
   pub row_is : value_row v ≡ part_note q
   row_is =
-      ap (λ z. z ∷ key_code v.key ∷ v.decimals ∷ text_place v.code v.from ∷ text_place v.code v.to ∷ 0 ∷ 0 ∷ []) value_noted
-      ∙ ap (λ z. value_code q.value ∷ key_code z.key ∷ z.decimals ∷ text_place v.code v.from ∷ text_place v.code v.to ∷ 0 ∷ 0 ∷ []) w.is
+      ap (λ z. z ∷ key_code v.key ∷ (number_in v.body).decimals ∷ text_place v.body v.from ∷ text_place v.body v.to ∷ 0 ∷ 0 ∷ []) (ap (λ z. body_code z.body) w.is ∙ body_coded q q.value w.stands.as_read)
+      ∙ ap (λ z. value_code q.value ∷ key_code z.key ∷ (number_in v.body).decimals ∷ text_place v.body v.from ∷ text_place v.body v.to ∷ 0 ∷ 0 ∷ []) w.is
+      ∙ ap (λ z. value_code q.value ∷ key_code q.key ∷ z ∷ text_place v.body v.from ∷ text_place v.body v.to ∷ 0 ∷ 0 ∷ []) (ap (λ z. (number_in z.body).decimals) w.is ∙ body_decimals q q.value)
       ∙ ap₂ (λ x y. value_code q.value ∷ key_code q.key ∷ decimals_noted q.value ∷ x ∷ y ∷ 0 ∷ 0 ∷ []) from_noted to_noted
       ∙ ap (λ z. value_code q.value ∷ key_code q.key ∷ decimals_noted q.value ∷ text_from q q.value ∷ text_to q q.value ∷ given z (λ l. l.at) 0 ∷ given z (λ l. l.at + length l.name) 0 ∷ [])
       (sym w.bare)
 
-  pub mass_is : v.mass ≡ mass_noted q.value
-  mass_is = ap (λ z. z.mass) w.is
+  pub mass_is : (number_in v.body).millionths ≡ mass_noted q.value
+  mass_is = ap (λ z. (number_in z.body).millionths) w.is ∙ body_millionths q q.value
 
   -- one part more, with no label
   pub value_more : (n : ℕ) (s : Parts) (ps : List (Part ℕ)) (least : ℕ) → PartsAre line n s ps
@@ -113,8 +90,7 @@ module _ (line : List ℕ) (at : ℕ) (v : Found) (q : Part ℕ) (w : IsValue li
             ap₂ (λ x y. x && eqb (key_code y.key) (key_code Info)) h.info w.is
             ∙ sym (all_snoc (is_key Info) ps q);
         refers = ap₂ (λ x y. cond (eqb s.count 0) x y) value_refers h.refers ∙ sym (refers_snoc ps q s.count h.count);
-        score = h.score ∙ ap score_noted (sym same);
-        points = h.points ∙ ap points_noted (sym same);
+        score = h.score ∙ ap score_kept (sym same);
         least_due =
             e ∙ ap (λ z. lowest (lowest z (part_codes q)) (map (code over_rank) (fifth s.count q.at))) h.least_due
             ∙ codes_more n ps s.count h.count q;
@@ -122,23 +98,10 @@ module _ (line : List ℕ) (at : ℕ) (v : Found) (q : Part ℕ) (w : IsValue li
       }
 
 -- ---- a label
--- a score is noted as something
-some_score : (y : Number ℕ) → eqb (score_noted (some y)) 0 ≡ false
-some_score y = go (in_range y) y.decimals
-  where
-    go : (t : Bool) (d : ℕ) → eqb (cond t (d + 1) (decimal_limit + 2)) 0 ≡ false
-    go true d = ne_eqb (d + 1) 0 (λ e. absurd (omega arith))
-    go false d = refl
-
 -- the first score counts
-module _ (l : Option (Number ℕ)) where
-  first_score : (x : Option (Number ℕ)) → cond (eqb (score_noted x) 0) (score_noted l) (score_noted x) ≡ score_noted (given x some l)
-  first_score none = refl
-  first_score (some y) = ap (λ z. cond z (score_noted l) (score_noted (some y))) (some_score y)
-
-  first_points : (x : Option (Number ℕ)) → cond (eqb (score_noted x) 0) (points_noted l) (points_noted x) ≡ points_noted (given x some l)
-  first_points none = refl
-  first_points (some y) = ap (λ z. cond z (points_noted l) (points_noted (some y))) (some_score y)
+first_score : (l x : Option (Number ℕ)) → score_or (score_kept x) (score_kept l) ≡ score_kept (given x some l)
+first_score l none = refl
+first_score l (some y) = refl
 
 module _ (line : List ℕ) (at : ℕ) (r : Named) (l : Label ℕ) (w : IsLabel line at r l) (q : Part ℕ) where
   abbrev named : Part ℕ
@@ -185,8 +148,7 @@ module _ (line : List ℕ) (at : ℕ) (r : Named) (l : Label ℕ) (w : IsLabel l
       let names = ap length (flat_snoc name_of ps q ∙ ap (λ z. flat name_of ps ++ given z (λ l. l.name ∷ []) []) bare ∙ append-nil (flat name_of ps)) in
       let more = ap length (flat_snoc name_of ps named) ∙ length-append (flat name_of ps) (l.name ∷ []) in
       let x = score_snoc ps q ∙ ap (λ z. given (score_of ps) some (given z (λ l. l.score) none)) bare ∙ given_some (score_of ps) in
-      let before : s.score ≡ score_noted (score_of ps) = h.score ∙ ap score_noted x in
-      let points : s.points ≡ points_noted (score_of ps) = h.points ∙ ap points_noted x in
+      let before : s.score ≡ score_kept (score_of ps) = h.score ∙ ap score_kept x in
       let c = h.count in
       let k = h.labels in
       record {
@@ -195,14 +157,9 @@ module _ (line : List ℕ) (at : ℕ) (r : Named) (l : Label ℕ) (w : IsLabel l
         info = h.info ∙ all_snoc (is_key Info) ps q ∙ sym (all_snoc (is_key Info) ps named);
         refers = h.refers ∙ refers_snoc ps q (length ps) refl ∙ sym (refers_snoc ps named (length ps) refl);
         score =
-            ap₂ (λ y z. cond (eqb y 0) z y) before w.score_is
+            ap₂ (λ y z. score_or y z) before w.score_is
             ∙ first_score l.score (score_of ps)
-            ∙ ap score_noted (sym (score_snoc ps named));
-        points =
-            ap₂ (λ y z. cond (eqb y 0) z s.points) before w.points_are
-            ∙ ap (λ z. cond (eqb (score_noted (score_of ps)) 0) (points_noted l.score) z) points
-            ∙ first_points l.score (score_of ps)
-            ∙ ap points_noted (sym (score_snoc ps named));
+            ∙ ap score_kept (sym (score_snoc ps named));
         least_due = e ∙ ap (λ z. lowest z cs) h.least_due ∙ codes_label n ps (length ps) refl q named cs refl g;
         stand =
             each_snoc (Stands line) ps named (each_front (Stands line) ps (q ∷ []) h.stand)

@@ -20,19 +20,16 @@ use Rattle.basics.specs.Tests.{and_left}
 use Rattle.reading_laws.proofs.Run.{rest, rest_dead}
 use Rattle.dues.specs.Ranks.{lowest}
 use Rattle.values.specs.declared.Value.{Value}
-use Rattle.values.specs.declared.ValueAt.{ValueAt}
-use Rattle.values.specs.declared.ValueAt.TheVariants.{Stuck as No-value, Read as A-value}
 use Rattle.values.specs.Says.{through, Opens, ValueReads, ValueSays}
 use Rattle.labels.specs.declared.Label.{Label as Named}
-use Rattle.labels.specs.declared.LabelAt.{LabelAt}
-use Rattle.labels.specs.declared.LabelAt.TheVariants.{Stuck as No-label, Read as A-label}
+use Rattle.scope.specs.declared.grammar.Stuck.{Stuck}
+use Rattle.std.specs.Prelude.{Result, Ok, Err}
 use Rattle.labels.specs.Says.{ReadsLabel, LabelSays}
 use Rattle.inside.specs.declared.Parts.{Parts}
 use Rattle.inside.specs.declared.Next.{Next}
-use Rattle.inside.specs.declared.Next.TheVariants.{Lost, Closed, More}
-use Rattle.inside.specs.declared.BracketAt.TheVariants.{Stuck, Read}
+use Rattle.inside.specs.declared.Next.TheVariants.{Closed, More}
 use Rattle.inside.specs.Says.{Opening, BracketFits, holding, SlotIs, PartsAre, Grows, Closes, BracketSays}
-use Rattle.inside.specs.Progress.{no_parts, byte_behind, behind_part, Sofar, Reached, NextPart, NextFits, AtLabel}
+use Rattle.inside.specs.Progress.{no_parts, lost_at, byte_behind, behind_part, Sofar, Reached, NextPart, NextFits, AtLabel}
 use Rattle.values.proofs.Through.{through_end, through_byte, through_same, through_rest, through_going}
 use Rattle.inside.proofs.Lists.{length_snoc, few_names}
 use Rattle.inside.proofs.Tables.{grows_none}
@@ -49,7 +46,7 @@ at_first line o s h e =
     (record {
       found = [];
       on = λ l i k g. refl;
-      are = record { count = refl; labels = refl; info = refl; refers = refl; score = refl; points = refl; least_due = refl; stand = tt };
+      are = record { count = refl; labels = refl; info = refl; refers = refl; score = refl; least_due = refl; stand = tt };
       grows = grows_none o;
       past = omega arith;
       within = h;
@@ -71,7 +68,7 @@ fits line o at s parts masses f w =
     }
 
 -- ---- to the value of the next part
-pub a_value : (line : List ℕ) (at : ℕ) (first : Bool) (f : ValueAt) (v : Value) → ValueSays line at first f → f ≡ A-value v → ValueReads line at first v
+pub a_value : (line : List ℕ) (at : ℕ) (first : Bool) (f : Result Value Stuck) (v : Value) → ValueSays line at first f → f ≡ Ok v → ValueReads line at first v
 a_value line at first f v w e = rw e at w
 
 module _ (line : List ℕ) (o : Opening) (at : ℕ) (s : Parts) (parts : List ℕ) (masses : List ℤ) (w : Sofar line o at s parts masses) (first : Bool)
@@ -88,8 +85,8 @@ module _ (line : List ℕ) (o : Opening) (at : ℕ) (s : Parts) (parts : List �
     with_labels = λ e. lab (and_left o.refers (none? w.found) (may w.found w.are.count ∙ e));
   }
 
-  pub no_value : (f : ValueAt) (p : ℕ) → ValueSays line at first f → f ≡ No-value p
-      → (l : Slot) (i : ℕ) (h : Held ℕ) → SlotIs o l → rest line o.at (inside l i h (begin (holding o []))) ≡ stuck p
+  pub no_value : (f : Result Value Stuck) (p : Stuck) → ValueSays line at first f → f ≡ Err p
+      → (l : Slot) (i : ℕ) (h : Held ℕ) → SlotIs o l → rest line o.at (inside l i h (begin (holding o []))) ≡ stuck p.at
   no_value f p v e l i h g = to_byte l i h g ∙ (rw e at v) l i h here opens
 
   pub reached : (v : Value) (r : ValueReads line at first v) (t : Parts) (parts' : List ℕ) (masses' : List ℤ) → PartsAre line o.least t (w.found ++ (r.found ∷ []))
@@ -126,7 +123,7 @@ unlabelled_end line o at s before q parts masses w e =
     not_hash k = sym (ap (λ z. z && (eqb (get_or line at 0) hash && o.labels)) (lt-ltb at (length line) k)) ∙ e
 
 -- ---- over a label
-pub a_label : (line : List ℕ) (at : ℕ) (f : LabelAt) (r : Named) → LabelSays line at f → f ≡ A-label r → ReadsLabel line at r
+pub a_label : (line : List ℕ) (at : ℕ) (f : Result Named Stuck) (r : Named) → LabelSays line at f → f ≡ Ok r → ReadsLabel line at r
 a_label line at f r w e = rw e at w
 
 module _ (line : List ℕ) (o : Opening) (part at shut : ℕ) (stored : Bool) (m : ℕ) (reference : Bool) (s : Parts) (before : List (Part ℕ)) (q : Part ℕ) (parts : List ℕ) (masses : List ℤ)
@@ -141,8 +138,8 @@ module _ (line : List ℕ) (o : Opening) (part at shut : ℕ) (stored : Bool) (m
       a.reached.on l i h g
       ∙ through_going line l i h at (value_end around q) (hashed around q) k (rw (eq-eqb (get_or line at 0) hash a.hash_there, a.allowed))
 
-  pub no_label : (f : LabelAt) (p : ℕ) → LabelSays line (at + 1) f → f ≡ No-label p
-      → (l : Slot) (i : ℕ) (h : Held ℕ) → SlotIs o l → rest line o.at (inside l i h (begin (holding o []))) ≡ stuck p
+  pub no_label : (f : Result Named Stuck) (p : Stuck) → LabelSays line (at + 1) f → f ≡ Err p
+      → (l : Slot) (i : ℕ) (h : Held ℕ) → SlotIs o l → rest line o.at (inside l i h (begin (holding o []))) ≡ stuck p.at
   no_label f p v e l i h g = to_label l i h g ∙ (rw e at v) q l i h around tt
 
   pub behind_label : (r : Named) (v : ReadsLabel line (at + 1) r) (t : Parts) (parts' : List ℕ)
@@ -174,7 +171,7 @@ module _ (line : List ℕ) (o : Opening) (from next : ℕ) (s : Parts) (before :
   ends x k e l i h g =
       w.on l i h g ∙ through_byte line l i h next (part_end (holding o (before)) q) k ∙ ap (λ z. rest line (next + 1) (resume l i h next z)) e
 
-  when_over : length line ≤ next → NextPart line o from (Lost next) parts masses
+  when_over : length line ≤ next → NextPart line o from (lost_at next) parts masses
   when_over k l i h g =
       let e : length line ≡ next = omega (arith, w.within) in
       w.on l i h g ∙ through_end line l i h next (part_end (holding o (before)) q) k ∙ ap stuck e
@@ -208,30 +205,30 @@ module _ (line : List ℕ) (o : Opening) (from next : ℕ) (s : Parts) (before :
       }
 
   when_lost : next < length line → eqb (get_or line next 0) o.shut ≡ false → (eqb (get_or line next 0) bar && not (is_reference q.value)) ≡ false
-      → NextPart line o from (Lost next) parts masses
+      → NextPart line o from (lost_at next) parts masses
   unfolding part_end resume
   when_lost k e g l i h z = ends lost k (rw (e, g)) l i h z ∙ rest_dead line (next + 1) next
 
-  pub a_part : (shut : ℕ) (reference : Bool) (z : Next) → o.shut ≡ shut → reference ≡ is_reference q.value → z ≡ behind_part line shut reference next s → NextPart line o from z parts masses
+  pub a_part : (shut : ℕ) (reference : Bool) (z : Result Next Stuck) → o.shut ≡ shut → reference ≡ is_reference q.value → z ≡ behind_part line shut reference next s → NextPart line o from z parts masses
   unfolding behind_part byte_behind
   a_part shut reference z es er ez =
       let e : z ≡ behind_part line o.shut (is_reference q.value) next s = ez ∙ ap (λ x. behind_part line x reference next s) (sym es) ∙ ap (λ x. behind_part line o.shut x next s) er in
       by_test (ltb next (length line))
       (λ t. let k = ltb-true next (length line) t in
       by_test (eqb (get_or line next 0) o.shut)
-      (λ b. let p : z ≡ Closed (next + 1) s = e ∙ rw (t, b) in rw p (when_closed k b))
+      (λ b. let p : z ≡ Ok (Closed (next + 1) s) = e ∙ rw (t, b) in rw p (when_closed k b))
       (λ b. by_test (eqb (get_or line next 0) bar && not (is_reference q.value))
-      (λ c. let p : z ≡ More (next + 1) s = e ∙ rw (t, b, c) in rw p (when_more k b c, omega arith))
-      (λ c. let p : z ≡ Lost next = e ∙ rw (t, b, c) in rw p (when_lost k b c))))
-      (λ t. let p : z ≡ Lost next = e ∙ rw t in rw p (when_over (ltb-false next (length line) t)))
+      (λ c. let p : z ≡ Ok (More (next + 1) s) = e ∙ rw (t, b, c) in rw p (when_more k b c, omega arith))
+      (λ c. let p : z ≡ lost_at next = e ∙ rw (t, b, c) in rw p (when_lost k b c))))
+      (λ t. let p : z ≡ lost_at next = e ∙ rw t in rw p (when_over (ltb-false next (length line) t)))
 
 -- ---- what one part more says of the bracket
-module _ (line : List ℕ) (o : Opening) (at : ℕ) (parts : List ℕ) (masses : List ℤ) (z : Next) (w : NextPart line o at z parts masses) where
-  pub then_lost : (p : ℕ) → z ≡ Lost p → BracketSays line o (Stuck p) parts masses
+module _ (line : List ℕ) (o : Opening) (at : ℕ) (parts : List ℕ) (masses : List ℤ) (z : Result Next Stuck) (w : NextPart line o at z parts masses) where
+  pub then_lost : (p : Stuck) → z ≡ Err p → BracketSays line o (Err p) parts masses
   then_lost p e = rw e at w
 
-  pub then_closed : (next : ℕ) (s : Parts) → z ≡ Closed next s → BracketSays line o (Read next s) parts masses
+  pub then_closed : (next : ℕ) (s : Parts) → z ≡ Ok (Closed next s) → BracketSays line o (Ok (record { next = next; parts = s })) parts masses
   then_closed next s e = rw e at w
 
-  pub then_more : (next : ℕ) (s : Parts) → z ≡ More next s → Sofar line o next s parts masses × (at < next)
+  pub then_more : (next : ℕ) (s : Parts) → z ≡ Ok (More next s) → Sofar line o next s parts masses × (at < next)
   then_more next s e = rw e at w

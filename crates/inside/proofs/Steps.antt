@@ -28,6 +28,9 @@ use Rattle.values.specs.declared.Value.{Value}
 use Rattle.values.specs.Says.{IsValue, ValueReads}
 use Rattle.labels.specs.declared.Label.{Label as Named}
 use Rattle.labels.specs.Says.{IsLabel, ReadsLabel}
+use Rattle.scope.specs.declared.grammar.Stuck.{Stuck}
+use Rattle.std.specs.Prelude.{Result}
+use Rattle.values.specs.Says.{number_in}
 use Rattle.inside.specs.declared.Parts.{Parts}
 use Rattle.inside.specs.declared.Next.{Next}
 use Rattle.inside.specs.Says.{Opening, PartsAre}
@@ -87,7 +90,7 @@ module _ (line : List ℕ) (o : Opening) (at : ℕ) (s : Parts) (parts : List �
   -- counted, stored, and what is due of it
   pub value_read : (stored : Bool) (m due least : ℕ) (t : Parts) (parts' : List ℕ) (masses' : List ℤ) → stored ≡ (o.room && ltb s.count part_limit) → m ≡ o.base + s.count
       → (stored ≡ true → m < masses_room) → parts_room ≤ length parts → masses_room ≤ length masses
-      → parts' ≡ cond stored (sets parts (m * part_fields) (value_row v)) parts → masses' ≡ cond stored (set masses m v.mass) masses
+      → parts' ≡ cond stored (sets parts (m * part_fields) (value_row v)) parts → masses' ≡ cond stored (set masses m (number_in v.body).millionths) masses
       → ((q : Part ℕ) → IsValue line at v q → due ≡ lowest s.least (part_codes q)) → least ≡ lowest due (map (code over_rank) (due_at (leb part_limit s.count) at))
       → t ≡ with_value s v least → Reached line o v.to value_end t w.found r.found parts' masses'
   value_read stored m due least t parts' masses' es em fits pr mr ep en ed el et =
@@ -99,7 +102,7 @@ module _ (line : List ℕ) (o : Opening) (at : ℕ) (s : Parts) (parts : List �
       (value_more line at v q i o.least s w.found least w.are
       (el ∙ ap (λ z. lowest z (map (code over_rank) (due_at (leb part_limit s.count) at))) (ed q i)
       ∙ ap (λ z. lowest (lowest s.least (part_codes q)) (map (code over_rank) (due_at (leb part_limit s.count) z))) (sym i.place))))
-      (part_stored o w.found parts masses w.grows q stored m (value_row v) v.mass parts' masses'
+      (part_stored o w.found parts masses w.grows q stored m (value_row v) (number_in v.body).millionths parts' masses'
       (es ∙ ap (λ z. o.room && ltb z part_limit) c) (em ∙ ap (λ z. o.base + z) c) fits pr mr (row_is line at v q i) (mass_is line at v q i) ep en)
 
   -- its `#` follows
@@ -129,7 +132,7 @@ module _ (line : List ℕ) (o : Opening) (part at shut : ℕ) (stored : Bool) (m
       ap (λ z. value_code q.value ∷ key_code q.key ∷ decimals_noted q.value ∷ text_from q q.value ∷ text_to q q.value ∷ given z (λ l. l.at) 0 ∷ given z (λ l. l.at + length l.name) 0 ∷ [])
       a.bare
 
-  pub label_read : (r : Named) (v : ReadsLabel line (at + 1) r) (least : ℕ) (t : Parts) (parts' : List ℕ) (z : Next)
+  pub label_read : (r : Named) (v : ReadsLabel line (at + 1) r) (least : ℕ) (t : Parts) (parts' : List ℕ) (z : Result Next Stuck)
       → parts_room ≤ length parts → parts' ≡ cond stored (sets parts (label_at m) (r.from ∷ r.to ∷ [])) parts → ((l : Label ℕ) → IsLabel line l.at r l → least ≡ lowest s.least (label_codes part l))
       → t ≡ with_label s r least → z ≡ behind_part line shut reference r.next t → NextPart line o part z parts' masses
   label_read r v least t parts' z pr ep el et ez =

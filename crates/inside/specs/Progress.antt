@@ -1,5 +1,6 @@
 -- What is known of a bracket's parts while they are read one by one.
-use Rattle.std.specs.Prelude.{◌≡◌, Bool, true, false, cond, not, ◌&&◌, List, [], ◌∷◌, ◌++◌, ℕ, ◌+◌, ◌<◌, ◌≤◌, eqb, ltb, ℤ, pos, length, get_or}
+use Rattle.std.specs.Prelude.{◌≡◌, Bool, true, false, cond, not, ◌&&◌, List, [], ◌∷◌, ◌++◌, ℕ, ◌+◌, ◌<◌, ◌≤◌, eqb, ltb, ℤ, length, get_or, Result, Ok, Err, Some, None}
+use Rattle.std.specs.Prelude.{Option as Perhaps}
 use Rattle.std.proofs.Math.Option.{none}
 use Rattle.scope.specs.declared.grammar.Slot.{Slot}
 use Rattle.scope.specs.declared.grammar.Key.TheVariants.{Info}
@@ -9,21 +10,34 @@ use Rattle.scope.specs.Line.{Part}
 use Rattle.scope.specs.Keys.{key_code}
 use Rattle.scope.specs.Content.{Context, begin, is_reference, Content, value_end}
 use Rattle.scope.specs.Reading.{Held, inside, stuck}
-use Rattle.scope.specs.Layout.{mass_code, text_code, reference_code}
 use Rattle.reading_laws.proofs.Run.{rest}
 use Rattle.sheet.specs.Rows.{masses_room}
 use Rattle.sheet.specs.Fields.{part_row}
 use Rattle.values.specs.declared.Value.{Value}
-use Rattle.values.specs.Says.{wide_code, through}
+use Rattle.values.specs.Says.{body_code, number_in, through}
 use Rattle.labels.specs.declared.Label.{Label}
 use Rattle.inside.specs.declared.Parts.{Parts}
 use Rattle.inside.specs.declared.Next.{Next}
-use Rattle.inside.specs.declared.Next.TheVariants.{Lost, Closed, More}
+use Rattle.inside.specs.declared.Next.TheVariants.{Closed, More}
+use Rattle.scope.specs.declared.grammar.Stuck.{Stuck}
+use Rattle.values.specs.declared.Body.{Body}
+use Rattle.values.specs.declared.Body.TheVariants.{Mass, Text, Reference}
+use Rattle.labels.specs.declared.Score.{Score}
 use Rattle.inside.specs.Says.{Opening, holding, SlotIs, PartsAre, Grows, Closes}
 
 -- ---- one part more
 abbrev pub no_parts : ℕ → Parts
-no_parts least = record { count = 0; labels = 0; info = true; refers = false; score = 0; points = pos 0; least = least }
+no_parts least = record { count = 0; labels = 0; info = true; refers = false; score = None; least = least }
+
+-- the first score, if there is one, else the other
+abbrev pub score_or : Perhaps Score → Perhaps Score → Perhaps Score
+score_or None b = b
+score_or (Some a) b = Some a
+
+abbrev pub refers_body : Body → Bool
+refers_body (Mass n) = false
+refers_body (Text d) = false
+refers_body Reference = true
 
 -- with a value
 abbrev pub with_value : Parts → Value → ℕ → Parts
@@ -32,9 +46,8 @@ with_value s v least =
       count = s.count + 1;
       labels = s.labels;
       info = s.info && eqb (key_code v.key) (key_code Info);
-      refers = cond (eqb s.count 0) (eqb v.code reference_code) s.refers;
+      refers = cond (eqb s.count 0) (refers_body v.body) s.refers;
       score = s.score;
-      points = s.points;
       least = least;
     }
 
@@ -46,30 +59,30 @@ with_label s l least =
       labels = s.labels + 1;
       info = s.info;
       refers = s.refers;
-      score = cond (eqb s.score 0) l.score s.score;
-      points = cond (eqb s.score 0) l.points s.points;
+      score = score_or s.score l.score;
       least = least;
     }
 
 -- what the byte behind a part does
-unfoldable pub byte_behind : ℕ → Bool → ℕ → Parts → ℕ → Next
-byte_behind shut reference next s b =
-    cond (eqb b shut) (Closed (next + 1) s) (cond (eqb b bar && not reference) (More (next + 1) s) (Lost next))
+abbrev pub lost_at : ℕ → Result Next Stuck
+lost_at p = Err (record { at = p })
 
-unfoldable pub behind_part : List ℕ → ℕ → Bool → ℕ → Parts → Next
-behind_part line shut reference next s = cond (ltb next (length line)) (byte_behind shut reference next s (get_or line next 0)) (Lost next)
+unfoldable pub byte_behind : ℕ → Bool → ℕ → Parts → ℕ → Result Next Stuck
+byte_behind shut reference next s b =
+    cond (eqb b shut) (Ok (Closed (next + 1) s)) (cond (eqb b bar && not reference) (Ok (More (next + 1) s)) (lost_at next))
+
+unfoldable pub behind_part : List ℕ → ℕ → Bool → ℕ → Parts → Result Next Stuck
+behind_part line shut reference next s = cond (ltb next (length line)) (byte_behind shut reference next s (get_or line next 0)) (lost_at next)
 
 -- ---- the row of a part
--- a mass out of range is a mass
-abbrev pub noted_code : ℕ → ℕ
-noted_code c = cond (eqb c wide_code) mass_code c
-
 -- the place is that of a text
-abbrev pub text_place : ℕ → ℕ → ℕ
-text_place c i = cond (eqb c text_code) i 0
+abbrev pub text_place : Body → ℕ → ℕ
+text_place (Mass n) i = 0
+text_place (Text d) i = i
+text_place Reference i = 0
 
 abbrev pub value_row : Value → List ℕ
-value_row v = part_row (noted_code v.code) (key_code v.key) v.decimals (text_place v.code v.from) (text_place v.code v.to)
+value_row v = part_row (body_code v.body) (key_code v.key) (number_in v.body).decimals (text_place v.body v.from) (text_place v.body v.to)
 
 -- ---- reading from part to part
 -- behind the parts so far, the next begins at `at`
@@ -91,10 +104,10 @@ pub record Reached (line : List ℕ) (o : Opening) (at : ℕ) (F : Context ℕ �
   pub within : at ≤ length line
   pub few : s.count ≤ at + 1
 
-abbrev pub NextPart : List ℕ → Opening → ℕ → Next → List ℕ → List ℤ → Type 0
-NextPart line o at (Lost p) parts masses = (l : Slot) (i : ℕ) (h : Held ℕ) → SlotIs o l → rest line o.at (inside l i h (begin (holding o []))) ≡ stuck p
-NextPart line o at (Closed next s) parts masses = Closes line o next s parts masses
-NextPart line o at (More next s) parts masses = Sofar line o next s parts masses × (at < next)
+abbrev pub NextPart : List ℕ → Opening → ℕ → Result Next Stuck → List ℕ → List ℤ → Type 0
+NextPart line o at (Err e) parts masses = (l : Slot) (i : ℕ) (h : Held ℕ) → SlotIs o l → rest line o.at (inside l i h (begin (holding o []))) ≡ stuck e.at
+NextPart line o at (Ok (Closed next s)) parts masses = Closes line o next s parts masses
+NextPart line o at (Ok (More next s)) parts masses = Sofar line o next s parts masses × (at < next)
 
 -- what reading a part asks
 pub record NextFits (line : List ℕ) (at : ℕ) (refers labels room : Bool) (base : ℕ) (s : Parts) : Type 0 where

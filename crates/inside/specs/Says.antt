@@ -1,5 +1,5 @@
 -- What a bracket that was read says: which parts it holds, how reading goes on behind it, what is due of them and what is noted of them.
-use Rattle.std.specs.Prelude.{◌≡◌, Bool, true, false, List, [], ◌++◌, map, ℕ, ◌+◌, ◌*◌, ◌<◌, ◌≤◌, ℤ, length, take}
+use Rattle.std.specs.Prelude.{◌≡◌, Bool, true, false, List, [], ◌++◌, map, ℕ, ◌+◌, ◌*◌, ◌<◌, ◌≤◌, ℤ, length, take, Result, Ok, Err}
 use Rattle.scope.specs.declared.grammar.Slot.{Slot}
 use Rattle.scope.specs.declared.grammar.Key.TheVariants.{Info}
 use Rattle.scope.specs.Limits.{line_limit, part_limit}
@@ -10,12 +10,13 @@ use Rattle.scope.specs.Reading.{Held, inside, outside, refers?, mode_after, with
 use Rattle.scope.specs.Modifications.{is_key, name_of}
 use Rattle.scope.specs.Tables.{score_of}
 use Rattle.reading_laws.proofs.Run.{rest}
-use Rattle.sheet.specs.Rows.{masses_room, part_fields, part_note, mass_noted, score_noted, points_noted, AllStand}
+use Rattle.sheet.specs.Rows.{masses_room, part_fields, part_note, mass_noted, AllStand}
 use Rattle.dues.specs.Ranks.{lowest}
 use Rattle.dues.specs.Lines.{parts_codes}
 use Rattle.inside.specs.declared.Parts.{Parts}
-use Rattle.inside.specs.declared.BracketAt.{BracketAt}
-use Rattle.inside.specs.declared.BracketAt.TheVariants.{Stuck, Read}
+use Rattle.scope.specs.declared.grammar.Stuck.{Stuck}
+use Rattle.labels.specs.Says.{score_kept}
+use Rattle.inside.specs.declared.Bracketed.{Bracketed}
 
 -- ---- the bracket that is read
 -- where its first part begins; the byte that closes it, whether a reference may stand in it, whether its parts may have labels; whether there is room for its parts, and
@@ -56,8 +57,7 @@ pub record PartsAre (line : List ℕ) (least : ℕ) (s : Parts) (ps : List (Part
   pub labels : s.labels ≡ length (flat name_of ps)
   pub info : s.info ≡ all (is_key Info) ps
   pub refers : s.refers ≡ refers? ps
-  pub score : s.score ≡ score_noted (score_of ps)
-  pub points : s.points ≡ points_noted (score_of ps)
+  pub score : s.score ≡ score_kept (score_of ps)
   pub least_due : s.least ≡ lowest least (parts_codes ps)
   pub stand : AllStand line ps
 
@@ -86,6 +86,6 @@ pub record Closes (line : List ℕ) (o : Opening) (next : ℕ) (s : Parts) (part
   pub few_labels : s.labels ≤ s.count
   pub grows : Grows o found parts masses
 
-abbrev pub BracketSays : List ℕ → Opening → BracketAt → List ℕ → List ℤ → Type 0
-BracketSays line o (Stuck p) parts masses = (l : Slot) (i : ℕ) (h : Held ℕ) → SlotIs o l → rest line o.at (inside l i h (begin (holding o []))) ≡ stuck p
-BracketSays line o (Read next s) parts masses = Closes line o next s parts masses
+abbrev pub BracketSays : List ℕ → Opening → Result Bracketed Stuck → List ℕ → List ℤ → Type 0
+BracketSays line o (Err e) parts masses = (l : Slot) (i : ℕ) (h : Held ℕ) → SlotIs o l → rest line o.at (inside l i h (begin (holding o []))) ≡ stuck e.at
+BracketSays line o (Ok b) parts masses = Closes line o b.next b.parts parts masses

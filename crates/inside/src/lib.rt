@@ -8,43 +8,41 @@ ghost use Rattle.scope.specs.Limits.{line_limit, part_limit};
 ghost use Rattle.scope.specs.Line.{Part, Bracket};
 ghost use Rattle.scope.specs.Keys.{key_code};
 ghost use Rattle.scope.specs.Lists.{none?};
-ghost use Rattle.scope.specs.Layout.{reference_code};
+ghost use Rattle.values.specs.Says.{number_in};
 ghost use Rattle.sheet.specs.Rows.{part_fields, masses_room, sort_of};
 ghost use Rattle.sheet.specs.Fields.{label_at};
 ghost use Rattle.sheet.specs.Kept.{OnlyParts};
 ghost use Rattle.inside.specs.Says.{Opening, BracketFits, BracketSays, PartsAre};
-ghost use Rattle.inside.specs.Progress.{no_parts, with_value, with_label, behind_part, noted_code, text_place, value_row, Sofar, NextPart, NextFits, AtLabel, LabelFits};
+ghost use Rattle.inside.specs.Progress.{no_parts, with_value, with_label, behind_part, refers_body, text_place, value_row, Sofar, NextPart, NextFits, AtLabel, LabelFits};
 
-use labels::{Label, LabelAt};
-use scope::grammar::Key;
+use labels::{Label, Score};
+use scope::grammar::{Key, Stuck};
 use scope::tables::Tables;
 use sheet::{Head, Sheet};
-use values::{Value, ValueAt};
+use values::{Body, Value};
 
-// The parts of a bracket: how many, how many labels they have, whether all are INFO, whether the first is a reference, the score of the first label that has one (0
-// where none has, else one more than its decimals, or above all of these where it is out of range) in millionths, and the first refusal due.
+// The parts of a bracket: how many, how many labels they have, whether all are INFO, whether the first is a reference, the score of the first label that has one, and
+// the first refusal due.
 #[derive(Clone, Copy)]
 pub struct Parts {
     pub count: usize,
     pub labels: usize,
     pub info: bool,
     pub refers: bool,
-    pub score: u8,
-    pub points: i64,
+    pub score: Option<Score>,
     pub least: usize,
 }
 
-// The place behind a bracket, and its parts; or the place where none goes on.
-#[derive(Drop)]
-pub enum BracketAt {
-    Stuck(usize),
-    Read { next: usize, parts: Parts },
+// A bracket that was read: the place behind it, and its parts.
+#[derive(Clone, Copy)]
+pub struct Bracketed {
+    pub next: usize,
+    pub parts: Parts,
 }
 
-// One part more: none goes on so, the bracket is closed, or the next part begins.
-#[derive(Drop)]
+// One part more: the bracket is closed, or the next part begins.
+#[derive(Clone, Copy)]
 enum Next {
-    Lost(usize),
     Closed(usize, Parts),
     More(usize, Parts),
 }
@@ -63,7 +61,7 @@ pub fn bracket_at(
     room: bool,
     base: usize,
     least: usize,
-) -> BracketAt
+) -> Result<Bracketed, Stuck>
     requires { BracketFits line.now (record { at = at; shut = shut; refers = refers; labels = labels; room = room; base = base; least = least; parts = sheet.old.parts; masses = sheet.old.masses }) }
     ensures says { BracketSays line.now (record { at = at; shut = shut; refers = refers; labels = labels; room = room; base = base; least = least; parts = sheet.old.parts; masses = sheet.old.masses }) result sheet.new.parts sheet.new.masses }
     ensures others_kept { OnlyParts sheet.old sheet.new }
@@ -71,12 +69,9 @@ pub fn bracket_at(
     let mut i = at;
     let mut s = no_parts(least);
     loop {
-        match next_part(line, sheet, i, shut, refers, labels, room, base, s) {
-            Next::Lost(p) => {
-                return BracketAt::Stuck(p);
-            }
-            Next::Closed(next, t) => {
-                return BracketAt::Read { next, parts: t };
+        match next_part(line, sheet, i, shut, refers, labels, room, base, s)? {
+            Next::Closed(next, parts) => {
+                return Ok(Bracketed { next, parts });
             }
             Next::More(next, t) => {
                 i = next;
@@ -97,31 +92,26 @@ fn next_part(
     room: bool,
     base: usize,
     s: Parts,
-) -> Next
+) -> Result<Next, Stuck>
     requires { NextFits line.now at refers labels room base s }
     ensures says { (from least : ℕ) (old : List ℕ) (masses₀ : List ℤ) → Sofar line.now (record { at = from; shut = shut; refers = refers; labels = labels; room = room; base = base; least = least; parts = old; masses = masses₀ }) at s sheet.old.parts sheet.old.masses → NextPart line.now (record { at = from; shut = shut; refers = refers; labels = labels; room = room; base = base; least = least; parts = old; masses = masses₀ }) at result sheet.new.parts sheet.new.masses }
     ensures others_kept { OnlyParts sheet.old sheet.new }
 {
     let first = may_refer(refers, s.count);
-    let found = values::value_at(line, at, first);
-    match found {
-        ValueAt::Stuck(p) => Next::Lost(p),
-        ValueAt::Read(v) => {
-            let stored = has_room(room, s.count);
-            let m = base + s.count;
-            sheet.sized();
-            store_part(sheet, stored, m, v);
-            let due = dues::value_due(line, s.least, at, v);
-            let least = dues::due_if(due, Tables::PARTS <= s.count, dues::OVER, at);
-            let t = with_value(s, v, least);
-            let next = v.to;
-            let reference = is_reference(v.code);
-            if has_label(line, next, labels) {
-                return labelled(line, sheet, at, next, shut, stored, m, reference, t);
-            }
-            behind(line, shut, next, reference, t)
-        }
+    let v = values::value_at(line, at, first)?;
+    let stored = has_room(room, s.count);
+    let m = base + s.count;
+    sheet.sized();
+    store_part(sheet, stored, m, v);
+    let due = dues::value_due(line, s.least, at, v);
+    let least = dues::due_if(due, Tables::PARTS <= s.count, dues::OVER, at);
+    let t = with_value(s, v, least);
+    let next = v.to;
+    let reference = is_reference(v.body);
+    if has_label(line, next, labels) {
+        return labelled(line, sheet, at, next, shut, stored, m, reference, t);
     }
+    behind(line, shut, next, reference, t)
 }
 
 // Reads the label of the part at `part`, whose `#` stands at `at`; the part is stored as part m, or not.
@@ -135,22 +125,17 @@ fn labelled(
     m: usize,
     reference: bool,
     s: Parts,
-) -> Next
+) -> Result<Next, Stuck>
     requires { LabelFits line.now part at stored m s }
     ensures says { (o : Opening) (before : List (Part ℕ)) (q : Part ℕ) → AtLabel line.now o part at shut stored m reference s before q sheet.old.parts sheet.old.masses → NextPart line.now o part result sheet.new.parts sheet.new.masses }
     ensures others_kept { OnlyParts sheet.old sheet.new }
 {
-    let found = labels::label_at(line, at + 1);
-    match found {
-        LabelAt::Stuck(p) => Next::Lost(p),
-        LabelAt::Read(l) => {
-            sheet.sized();
-            store_label(sheet, stored, m, l);
-            let least = dues::label_due(line, s.least, part, l);
-            let t = with_label(s, l, least);
-            behind(line, shut, l.next, reference, t)
-        }
-    }
+    let l = labels::label_at(line, at + 1)?;
+    sheet.sized();
+    store_label(sheet, stored, m, l);
+    let least = dues::label_due(line, s.least, part, l);
+    let t = with_label(s, l, least);
+    behind(line, shut, l.next, reference, t)
 }
 
 // Whether a reference may stand here: as the first part only.
@@ -177,23 +162,23 @@ fn has_label(line: &[u8], at: usize, labels: bool) -> bool
 }
 
 // The byte at `next`, behind the last of the parts `s`.
-fn behind(line: &[u8], shut: u8, next: usize, reference: bool, s: Parts) -> Next
+fn behind(line: &[u8], shut: u8, next: usize, reference: bool, s: Parts) -> Result<Next, Stuck>
     ensures { result ≡ behind_part line.now shut reference next s }
 {
     if line.len() <= next {
-        return Next::Lost(next);
+        return Err(Stuck { at: next });
     }
     let b = line[next];
     if b == shut {
-        return Next::Closed(next + 1, s);
+        return Ok(Next::Closed(next + 1, s));
     }
     if b != b'|' {
-        return Next::Lost(next);
+        return Err(Stuck { at: next });
     }
     if reference {
-        return Next::Lost(next);
+        return Err(Stuck { at: next });
     }
-    Next::More(next + 1, s)
+    Ok(Next::More(next + 1, s))
 }
 
 // ---- the parts, with one more
@@ -207,8 +192,7 @@ fn no_parts(least: usize) -> Parts
         labels: 0,
         info: true,
         refers: false,
-        score: Label::UNSCORED,
-        points: 0,
+        score: None,
         least,
     }
 }
@@ -218,15 +202,12 @@ fn with_value(s: Parts, v: Value, least: usize) -> Parts
     requires { s.count ≤ line_limit }
     ensures { result ≡ with_value s v least }
 {
-    let key = v.key;
     Parts {
         count: s.count + 1,
-        labels: s.labels,
-        info: both_of(s.info, is_info(key)),
-        refers: first_refers(s.count, s.refers, is_reference(v.code)),
-        score: s.score,
-        points: s.points,
+        info: s.info && is_info(v.key),
+        refers: first_refers(s.count, s.refers, is_reference(v.body)),
         least,
+        ..s
     }
 }
 
@@ -236,44 +217,14 @@ fn with_label(s: Parts, l: Label, least: usize) -> Parts
     ensures { result ≡ with_label s l least }
 {
     Parts {
-        count: s.count,
         labels: s.labels + 1,
-        info: s.info,
-        refers: s.refers,
-        score: score_after(s.score, l.score),
-        points: points_after(s.score, s.points, l.points),
+        score: s.score.or(l.score),
         least,
+        ..s
     }
 }
 
-// The first score counts.
-fn score_after(before: u8, here: u8) -> u8
-    ensures { result ≡ cond (eqb before 0) here before }
-{
-    if before == Label::UNSCORED {
-        return here;
-    }
-    before
-}
-
-fn points_after(score: u8, before: i64, here: i64) -> i64
-    ensures { result ≡ cond (eqb score 0) here before }
-{
-    if score == Label::UNSCORED {
-        return here;
-    }
-    before
-}
-
-fn both_of(a: bool, b: bool) -> bool
-    ensures { result ≡ (a && b) }
-{
-    if a {
-        return b;
-    }
-    false
-}
-
+// Whether the first part is a reference.
 fn first_refers(count: usize, before: bool, here: bool) -> bool
     ensures { result ≡ cond (eqb count 0) here before }
 {
@@ -286,13 +237,13 @@ fn first_refers(count: usize, before: bool, here: bool) -> bool
 fn is_info(key: Key) -> bool
     ensures { result ≡ eqb (key_code key) (key_code Key.Info) }
 {
-    words::key_code(key) == words::key_code(Key::Info)
+    matches!(key, Key::Info)
 }
 
-fn is_reference(code: u8) -> bool
-    ensures { result ≡ eqb code reference_code }
+fn is_reference(body: Body) -> bool
+    ensures { result ≡ refers_body body }
 {
-    code == Value::REFERENCE
+    matches!(body, Body::Reference)
 }
 
 // What a bracket with these parts is.
@@ -323,43 +274,40 @@ fn has_room(room: bool, count: usize) -> bool
     false
 }
 
-// The code of a value in its row: a mass out of range is a mass.
-fn value_code(code: u8) -> u8
-    ensures { result ≡ noted_code code }
+// The place, where it is that of a text.
+fn text_place(body: Body, place: usize) -> usize
+    ensures { result ≡ text_place body place }
 {
-    if code == Value::WIDE {
-        return Value::MASS;
+    if let Body::Text { .. } = body {
+        place
+    } else {
+        0
     }
-    code
 }
 
-// The place, where it is that of a text.
-fn text_place(code: u8, place: usize) -> usize
-    ensures { result ≡ text_place code place }
+// The number of a key in its row.
+fn key_code(key: Key) -> u8
+    ensures { result ≡ key_code key }
 {
-    if code == Value::TEXT {
-        return place;
-    }
-    0
+    key as u8
 }
 
 // Part m, which has no label so far, where it is stored.
 fn store_part(sheet: &mut Sheet, stored: bool, m: usize, v: Value)
     requires { (stored ≡ true → m < masses_room) × (v.from < wide_limit) × (v.to < wide_limit) }
-    ensures { sheet.new ≡ record sheet.old { parts = cond stored (sets sheet.old.parts (m * part_fields) (value_row v)) sheet.old.parts; masses = cond stored (set sheet.old.masses m v.mass) sheet.old.masses } }
+    ensures { sheet.new ≡ record sheet.old { parts = cond stored (sets sheet.old.parts (m * part_fields) (value_row v)) sheet.old.parts; masses = cond stored (set sheet.old.masses m (number_in v.body).millionths) sheet.old.masses } }
 {
     if stored {
-        let key = v.key;
-        let mass = v.mass;
+        let number = v.body.number();
         sheet.put_part(
             m,
-            value_code(v.code),
-            words::key_code(key),
-            v.decimals,
-            text_place(v.code, v.from),
-            text_place(v.code, v.to),
+            v.body.code(),
+            key_code(v.key),
+            number.decimals,
+            text_place(v.body, v.from),
+            text_place(v.body, v.to),
         );
-        sheet.masses[m] = mass;
+        sheet.masses[m] = number.millionths;
     }
 }
 

@@ -13,7 +13,6 @@ use rules::Found;
 use scope::answers::Read;
 use scope::tables::Tables;
 use sheet::Sheet;
-use walk::Walked;
 
 // The refusal of a line; or how many residues, brackets and floaters it has, where it is accepted.
 #[derive(Drop)]
@@ -33,15 +32,7 @@ pub enum Judged {
 fn printable_end(line: &[u8]) -> usize
     ensures { result ≡ span is_printable line.now }
 {
-    let mut i = 0;
-    while i < line.len() {
-        if classes::is_printable(line[i]) {
-            i += 1;
-        } else {
-            return i;
-        }
-    }
-    i
+    classes::run_end(line, 0, classes::is_printable)
 }
 
 // Refusal 3; or 4, at the place where no line goes on.
@@ -106,16 +97,16 @@ pub fn judge(line: &[u8], sheet: &mut Sheet) -> Judged
             place: Tables::LINE,
         };
     }
-    let walked = walk::walk(line, sheet);
-    match walked {
-        Walked::Stuck(place) => not_read(line, place),
-        Walked::Holds {
-            residues,
-            brackets,
-            least,
-        } => {
-            let found = first_due(line, sheet, brackets, least);
-            by_code(found.first, residues, brackets, found.floaters)
+    match walk::walk(line, sheet) {
+        Err(stuck) => not_read(line, stuck.at),
+        Ok(walked) => {
+            let found = first_due(line, sheet, walked.brackets, walked.least);
+            by_code(
+                found.first,
+                walked.residues,
+                walked.brackets,
+                found.floaters,
+            )
         }
     }
 }

@@ -22,8 +22,8 @@ use Rattle.dues.specs.Lines.{met_codes}
 use Rattle.sheet.specs.declared.Sheet.{Sheet}
 use Rattle.sheet.specs.Kept.{Sized}
 use Rattle.walk.specs.declared.Stage.{Stage}
-use Rattle.walk.specs.declared.Step.{Step}
-use Rattle.walk.specs.declared.Step.TheVariants.{Stuck, More}
+use Rattle.std.specs.Prelude.{Result, Ok, Err}
+use Rattle.scope.specs.declared.grammar.Stuck.{Stuck}
 use Rattle.walk.specs.Stages.{held_brackets, with_heads, nothing_due, BracketsAre, Upto, Does, Low, first_stage}
 use Rattle.walk.specs.Steps.{gone_to, settled_in, Settled, Stepped}
 use Rattle.walk.specs.Walked.{LineSays}
@@ -209,8 +209,8 @@ module _ {line : List ℕ} {s : Stage} {t : Sheet} (u : Upto line s t) (past : l
 pub does_this : {line : List ℕ} {s : Stage} {t : Sheet} → (length line ≤ line_limit) × (s.at < length line) × Upto line s t → {r a : Act} → r ≡ act s.mode (get_or line s.at 0) → r ≡ a → Does line s a t
 does_this p e g = record { upto = p.2; here = p.1; short = p.0; does = sym e ∙ g }
 
-pub step_stuck : (line : List ℕ) (s : Stage) (t : Sheet) {r : Step} {p : ℕ} → Stepped line s r t → r ≡ Stuck p → reading line ≡ stuck p
+pub step_stuck : (line : List ℕ) (s : Stage) (t : Sheet) {r : Result Stage Stuck} {p : Stuck} → Stepped line s r t → r ≡ Err p → reading line ≡ stuck p.at
 step_stuck line s t f e = subst (λ x. Stepped line s x t) e f
 
-pub step_more : (line : List ℕ) (s : Stage) (t : Sheet) {r : Step} {n : Stage} → Stepped line s r t → r ≡ More n → Upto line n t × (s.at < n.at)
+pub step_more : (line : List ℕ) (s : Stage) (t : Sheet) {r : Result Stage Stuck} {n : Stage} → Stepped line s r t → r ≡ Ok n → Upto line n t × (s.at < n.at)
 step_more line s t f e = subst (λ x. Stepped line s x t) e f

@@ -15,8 +15,11 @@ use Rattle.scope.specs.Limits.{line_limit, part_limit}
 use Rattle.scope.specs.Line.{Bracket}
 use Rattle.scope.specs.Reading.{position_of, bracket_of}
 use Rattle.basics.specs.Kinds.{kind_byte, position_few}
-use Rattle.sheet.specs.Rows.{sort_of}
+use Rattle.scope.specs.Tables.{score_of}
+use Rattle.sheet.specs.Rows.{sort_of, score_noted}
 use Rattle.inside.specs.declared.Parts.{Parts}
+use Rattle.labels.specs.Says.{score_code}
+use Rattle.labels.proofs.Kept.{code_kept}
 use Rattle.inside.specs.Says.{PartsAre}
 use Rattle.walk.specs.declared.Stage.{Stage}
 use Rattle.walk.specs.Stages.{Low}
@@ -24,14 +27,14 @@ use Rattle.walk.specs.Steps.{HeadSays, bracket_behind, noted?, run_behind}
 
 module _ (s : Stage) (kind : Kind) (p : Parts) (low : Low s) (few : p.count ≤ line_limit) (few_labels : p.labels ≤ p.count) where
   pub head_says : (k sort first last score : ℕ) → k ≡ kind_code kind → ((line : List ℕ) (least : ℕ) (b : Bracket ℕ) → PartsAre line least p b.parts → sort ≡ sort_of b) → sort < wide_limit
-      → first ≡ position_of kind s.residues s.group → last ≡ position_of kind s.residues s.residues → score ≡ p.score → score < wide_limit
+      → first ≡ position_of kind s.residues s.group → last ≡ position_of kind s.residues s.residues → score ≡ score_code p.score → score < wide_limit
       → HeadSays s kind p (record { place = s.at; kind = k; sort = sort; first = first; last = last; parts = p.count; labels = p.labels; base = s.parts; score = score })
   head_says k sort first last score ek es sort-low ef el ep score-low = record {
     row = λ line least h ps a e f.
         let a1 : first ≡ position_of kind (length h.residues) h.first = ef ∙ ap₂ (position_of kind) e f in
         let a2 : last ≡ position_of kind (length h.residues) (length h.residues) = el ∙ ap₂ (position_of kind) e e in
         let a3 : sort ≡ sort_of (bracket_of kind s.at ps h) = es line least (bracket_of kind s.at ps h) a in
-        let a4 = ep ∙ a.score in
+        let a4 : score ≡ score_noted (score_of ps) = ep ∙ ap score_code a.score ∙ code_kept (score_of ps) in
         rw (ek, a3, a1, a2, a.count, a.labels, a4);
     fits = record {
       place = omega (arith, low.at);

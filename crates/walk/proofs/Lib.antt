@@ -12,3 +12,5 @@ pub mod OneRun
 pub mod OneCount
 pub mod OneBracket
 pub mod OnePlaces
+pub mod Scores
+pub mod Places

@@ -16,6 +16,8 @@ use Rattle.scope.specs.declared.grammar.Kind.TheVariants.{Declared}
 use Rattle.scope.specs.declared.grammar.Slot.{Slot}
 use Rattle.scope.specs.declared.grammar.Act.TheVariants.{Begin}
 use Rattle.scope.specs.Kinds.{is_unknown, is_declared}
+use Rattle.scope.specs.Bytes.{wide_limit}
+use Rattle.scope.specs.Tables.{score_of}
 use Rattle.scope.specs.Limits.{bracket_limit, part_limit, declaration_limit}
 use Rattle.scope.specs.Line.{Part, Bracket}
 use Rattle.scope.specs.Reading.{Held, put, bracket_of, mode_after, outside, perform, stuck, reading}
@@ -27,14 +29,16 @@ use Rattle.sheet.specs.Fields.{head_row}
 use Rattle.dues.specs.Ranks.{code, lowest}
 use Rattle.dues.specs.Lines.{over_rank, parts_codes, met_codes}
 use Rattle.inside.specs.declared.Parts.{Parts}
-use Rattle.inside.specs.declared.BracketAt.{BracketAt}
-use Rattle.inside.specs.declared.BracketAt.TheVariants.{Stuck as stuck_at, Read}
+use Rattle.inside.specs.declared.Bracketed.{Bracketed}
+use Rattle.scope.specs.declared.grammar.Stuck.{Stuck}
+use Rattle.std.specs.Prelude.{Result, Ok, Err}
+use Rattle.labels.specs.Says.{score_code, score_points}
+use Rattle.labels.proofs.Kept.{code_kept, points_kept}
+use Rattle.walk.proofs.Scores.{score_small}
 use Rattle.inside.specs.Says.{Opening, BracketFits, Grows, Closes, BracketSays}
 use Rattle.inside.proofs.Lists.{length_snoc}
 use Rattle.sheet.specs.declared.Sheet.{Sheet}
 use Rattle.walk.specs.declared.Stage.{Stage}
-use Rattle.walk.specs.declared.Step.{Step}
-use Rattle.walk.specs.declared.Step.TheVariants.{Stuck, More}
 use Rattle.walk.specs.Stages.{ModeFits, Declares, held_brackets, nothing_due, ResiduesAre, BracketsAre, Upto, Does}
 use Rattle.walk.specs.Steps.{noted?, run_behind, bracket_behind, opening_of, BracketAsks, BracketStuck, BracketRead, BracketStep, Stepped}
 use Rattle.walk.proofs.Modes.{SlotFits, labels_there}
@@ -54,12 +58,16 @@ bracket_fits {s = s} a least parts masses = record {
   base_room = λ e. a.low.room (ltb-true s.brackets bracket_limit e);
 }
 
-module _ (line : List ℕ) (o : Opening) (r : BracketAt) (parts : List ℕ) (masses : List ℤ) where
-  pub then_stuck : BracketSays line o r parts masses → {p : ℕ} → r ≡ stuck_at p → BracketSays line o (stuck_at p) parts masses
+module _ (line : List ℕ) (o : Opening) (r : Result Bracketed Stuck) (parts : List ℕ) (masses : List ℤ) where
+  pub then_stuck : BracketSays line o r parts masses → {p : Stuck} → r ≡ Err p → BracketSays line o (Err p) parts masses
   then_stuck f e = subst (λ x. BracketSays line o x parts masses) e f
 
-  pub then_closes : BracketSays line o r parts masses → {next : ℕ} {p : Parts} → r ≡ Read next p → Closes line o next p parts masses
+  pub then_closes : BracketSays line o r parts masses → {b : Bracketed} → r ≡ Ok b → Closes line o b.next b.parts parts masses
   then_closes f e = subst (λ x. BracketSays line o x parts masses) e f
+
+-- its score fits its field
+pub score_fits : {line : List ℕ} {o : Opening} {next : ℕ} {p : Parts} {parts : List ℕ} {masses : List ℤ} → Closes line o next p parts masses → score_code p.score < wide_limit
+score_fits {p = p} c = let e = ap score_code c.are.score ∙ code_kept (score_of c.found) in let d = score_small (score_of c.found) in omega (arith, e, d)
 
 -- ---- a bracket is put behind those held
 module _ (slot : Slot) (k : Bracket ℕ) (h : Held ℕ) (f : SlotFits slot h.run) where
@@ -106,8 +114,8 @@ module _ {line : List ℕ} {s : Stage} {t : Sheet} {slot : Slot} (d : Does line 
     heads_put : t'.heads ≡ cond (noted? s) (sets t.heads (s.brackets * head_fields) (head_row w.noted.head)) t.heads
     heads_put = ap (λ x. x.heads) w.noted.put ∙ ap (λ l. cond (noted? s) (sets l (s.brackets * head_fields) (head_row w.noted.head)) l) w.others.heads
 
-    scores_put : t'.scores ≡ cond (noted? s) (set t.scores s.brackets w.found.points) t.scores
-    scores_put = ap (λ x. x.scores) w.noted.put ∙ ap (λ l. cond (noted? s) (set l s.brackets w.found.points) l) w.others.scores
+    scores_put : t'.scores ≡ cond (noted? s) (set t.scores s.brackets (score_points w.found.score)) t.scores
+    scores_put = ap (λ x. x.scores) w.noted.put ∙ ap (λ l. cond (noted? s) (set l s.brackets (score_points w.found.score)) l) w.others.scores
 
     parts_are : t'.parts ≡ w.mid.parts
     parts_are = ap (λ x. x.parts) w.noted.put
@@ -144,7 +152,7 @@ module _ {line : List ℕ} {s : Stage} {t : Sheet} {slot : Slot} (d : Does line 
         let o = opening_of s slot w.least t.parts t.masses in
         let put-noted =
         noted_more a.noted k s.brackets a.many o refl refl refl refl t'.parts t'.masses grows_at (head_row w.noted.head)
-        (w.noted.head_is.row line w.least h ps c.are u.residues_are.many u.residues_are.group_is) u.roomy.heads_room_is p.points c.are.points u.roomy.scores_room c.are.stand refl
+        (w.noted.head_is.row line w.least h ps c.are u.residues_are.many u.residues_are.group_is) u.roomy.heads_room_is (score_points p.score) (ap score_points c.are.score ∙ points_kept (score_of c.found)) u.roomy.scores_room c.are.stand refl
         p.count c.are.count in
         record {
           many = ap (λ n. n + 1) a.many ∙ sym (length_snoc ks k);
@@ -182,7 +190,7 @@ module _ {line : List ℕ} {s : Stage} {t : Sheet} {slot : Slot} (d : Does line 
     heads_long = ap length heads_put ∙ branch (λ l. length l ≡ length t.heads) (noted? s) (length-sets t.heads (s.brackets * head_fields) (head_row w.noted.head)) refl
 
     scores_long : length t'.scores ≡ length t.scores
-    scores_long = ap length scores_put ∙ branch (λ l. length l ≡ length t.scores) (noted? s) (length-set t.scores s.brackets p.points) refl
+    scores_long = ap length scores_put ∙ branch (λ l. length l ≡ length t.scores) (noted? s) (length-set t.scores s.brackets (score_points p.score)) refl
 
     bracket_upto : Upto line (bracket_behind s slot w.next p) t'
     unfolding perform
@@ -223,6 +231,6 @@ module _ {line : List ℕ} {s : Stage} {t : Sheet} {slot : Slot} (d : Does line 
         let past : s.at < w.next = omega (arith, w.closes.past) in
         subst (λ y. Upto line y t' × (s.at < y.at)) (sym w.noted.stage) (bracket_upto, past)
 
-  pub bracket_step : (r : Step) (t' : Sheet) → BracketStep line s slot r t t' → Stepped line s r t'
-  bracket_step (Stuck p) t' w = bracket_stuck w
-  bracket_step (More r) t' w = bracket_more w
+  pub bracket_step : (r : Result Stage Stuck) (t' : Sheet) → BracketStep line s slot r t t' → Stepped line s r t'
+  bracket_step (Err e) t' w = bracket_stuck w
+  bracket_step (Ok r) t' w = bracket_more w

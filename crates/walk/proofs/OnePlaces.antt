@@ -16,7 +16,8 @@ use Rattle.scope.specs.Reading.{Held, declared_at, with_places, outside, perform
 use Rattle.reading_laws.proofs.Run.{rest}
 use Rattle.sites.specs.Says.{place_of, Stand, ListReads}
 use Rattle.sites.specs.declared.Listed.{Listed as List-at}
-use Rattle.sites.specs.declared.Listed.TheVariants.{Stuck as stuck_at, Ends}
+use Rattle.scope.specs.declared.grammar.Stuck.{Stuck}
+use Rattle.std.specs.Prelude.{Result, Ok, Err}
 use Rattle.sites.specs.Says.{ListSays}
 use Rattle.sheet.specs.Rows.{places_from, PlacesStand, Noted}
 use Rattle.sheet.specs.Fields.{places_at}
@@ -25,8 +26,6 @@ use Rattle.dues.specs.Lines.{over_rank, met_codes}
 use Rattle.inside.proofs.Lists.{length_snoc}
 use Rattle.sheet.specs.declared.Sheet.{Sheet}
 use Rattle.walk.specs.declared.Stage.{Stage}
-use Rattle.walk.specs.declared.Step.{Step}
-use Rattle.walk.specs.declared.Step.TheVariants.{Stuck, More}
 use Rattle.walk.specs.Stages.{LastBare, Declares, held_brackets, with_heads, nothing_due, BracketsAre, Upto, Does}
 use Rattle.walk.specs.Steps.{places_put, listed_to, PlacesRead, PlacesStep, Stepped}
 use Rattle.walk.proofs.Declares.{places_last, declares_places}
@@ -35,11 +34,11 @@ use Rattle.walk.proofs.Notes.{noted_places}
 use Rattle.walk.proofs.Further.{next_state, run_left, brackets_as, room_heads}
 
 -- what a list that was found says, by the answer
-module _ (line : List ℕ) (at : ℕ) (r : List-at) where
-  pub then_stuck : ListSays line at r → {p : ℕ} → r ≡ stuck_at p → ListSays line at (stuck_at p)
+module _ (line : List ℕ) (at : ℕ) (r : Result List-at Stuck) where
+  pub then_stuck : ListSays line at r → {p : Stuck} → r ≡ Err p → ListSays line at (Err p)
   then_stuck f e = subst (ListSays line at) e f
 
-  pub then_reads : ListSays line at r → {next many over : ℕ} → r ≡ Ends next many over → ListReads line at next many over
+  pub then_reads : ListSays line at r → {l : List-at} → r ≡ Ok l → ListReads line at l.next l.many l.over
   then_reads f e = subst (ListSays line at) e f
 
 -- a list of places begins where its first stands
@@ -80,7 +79,7 @@ module _ {line : List ℕ} {s : Stage} {t : Sheet} (d : Does line s Places t) wh
   pub a_bracket : 0 < s.brackets
   a_bracket = omega (arith, many, length_snoc ks k)
 
-  pub places_stuck : {p : ℕ} → ListSays line (s.at + 1) (stuck_at p) → reading line ≡ stuck p
+  pub places_stuck : {p : ℕ} → ListSays line (s.at + 1) (Err (record { at = p })) → reading line ≡ stuck p
   unfolding perform
   places_stuck f = next_state d ∙ f h
 
@@ -141,6 +140,6 @@ module _ {line : List ℕ} {s : Stage} {t : Sheet} (d : Does line s Places t) wh
         let past : s.at < w.next = omega (arith, w.reads.past) in
         subst (λ y. Upto line y t' × (s.at < y.at)) (sym w.stage) (subst (Upto line (listed_to s w.next w.least)) (sym w.put) places_upto, past)
 
-  pub places_step : (r : Step) (t' : Sheet) → PlacesStep line s r t t' → Stepped line s r t'
-  places_step (Stuck p) t' w = places_stuck w
-  places_step (More r) t' w = places_more w
+  pub places_step : (r : Result Stage Stuck) (t' : Sheet) → PlacesStep line s r t t' → Stepped line s r t'
+  places_step (Err e) t' w = places_stuck w
+  places_step (Ok r) t' w = places_more w

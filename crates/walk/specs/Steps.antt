@@ -31,8 +31,10 @@ use Rattle.dues.specs.Lines.{over_rank, wide_rank}
 use Rattle.inside.specs.declared.Parts.{Parts}
 use Rattle.inside.specs.Says.{Opening, PartsAre, Closes}
 use Rattle.walk.specs.declared.Stage.{Stage}
-use Rattle.walk.specs.declared.Step.{Step}
-use Rattle.walk.specs.declared.Step.TheVariants.{Stuck, More}
+use Rattle.scope.specs.declared.grammar.Stuck.{Stuck}
+use Rattle.labels.specs.Says.{score_points}
+use Rattle.std.specs.Prelude.{Result, Ok, Err}
+use Rattle.std.specs.Prelude.{Option as Perhaps}
 use Rattle.walk.specs.Stages.{with_heads, with_letters, Upto, Low}
 
 -- ---- a byte that only carries the order on
@@ -98,16 +100,16 @@ PlacesStuck line s p = (h : Held ℕ) → rest line (s.at + 1) (placing h (expec
 pub record PlacesRead (line : List ℕ) (s r : Stage) (t t' : Sheet) : Type 0 where
   pub next : ℕ
   pub many : ℕ
-  pub over : ℕ
+  pub over : Perhaps ℕ
   pub reads : ListReads line (s.at + 1) next many over
   pub least : ℕ
   pub least_is : least ≡ lowest s.least (map (code over_rank) (drop place_limit (map (λ p. p.at) reads.sites)))
   pub stage : r ≡ listed_to s next least
   pub put : t' ≡ with_heads t (places_put s.brackets (s.at + 1) many t.heads)
 
-abbrev pub PlacesStep : List ℕ → Stage → Step → Sheet → Sheet → Type 0
-PlacesStep line s (Stuck p) t t' = PlacesStuck line s p
-PlacesStep line s (More r) t t' = PlacesRead line s r t t'
+abbrev pub PlacesStep : List ℕ → Stage → Result Stage Stuck → Sheet → Sheet → Type 0
+PlacesStep line s (Err e) t t' = PlacesStuck line s e.at
+PlacesStep line s (Ok r) t t' = PlacesRead line s r t t'
 
 -- ---- residues
 -- the section of a letter behind a residue of this section
@@ -217,7 +219,7 @@ pub record NotedSays (s : Stage) (slot : Slot) (next : ℕ) (p : Parts) (r : Sta
   pub stage : r ≡ bracket_behind s slot next p
   pub head : Head
   pub head_is : HeadSays s slot.kind p head
-  pub put : t' ≡ head_put s.brackets (head_row head) p.points t
+  pub put : t' ≡ head_put s.brackets (head_row head) (score_points p.score) t
 
 -- what reading a bracket asks
 pub record BracketAsks (line : List ℕ) (s : Stage) (slot : Slot) : Type 0 where
@@ -242,11 +244,11 @@ pub record BracketRead (line : List ℕ) (s : Stage) (slot : Slot) (r : Stage) (
   pub others : OnlyParts t mid
   pub noted : NotedSays s slot next found r mid t'
 
-abbrev pub BracketStep : List ℕ → Stage → Slot → Step → Sheet → Sheet → Type 0
-BracketStep line s slot (Stuck p) t t' = BracketStuck line s slot p
-BracketStep line s slot (More r) t t' = BracketRead line s slot r t t'
+abbrev pub BracketStep : List ℕ → Stage → Slot → Result Stage Stuck → Sheet → Sheet → Type 0
+BracketStep line s slot (Err e) t t' = BracketStuck line s slot e.at
+BracketStep line s slot (Ok r) t t' = BracketRead line s slot r t t'
 
 -- ---- one step further
-abbrev pub Stepped : List ℕ → Stage → Step → Sheet → Type 0
-Stepped line s (Stuck p) t = reading line ≡ stuck p
-Stepped line s (More r) t = Upto line r t × (s.at < r.at)
+abbrev pub Stepped : List ℕ → Stage → Result Stage Stuck → Sheet → Type 0
+Stepped line s (Err e) t = reading line ≡ stuck e.at
+Stepped line s (Ok r) t = Upto line r t × (s.at < r.at)

@@ -5,6 +5,8 @@ ghost use Rattle.std.specs.Prelude.{◌≡◌, cond, ◌∷◌, map, ◌+◌, �
 ghost use Rattle.std.proofs.lemmas.List.Edits.{sets};
 ghost use Rattle.scope.specs.Bytes.{is_letter, upper as inUpper, wide_limit};
 ghost use Rattle.scope.specs.Layout.{section_code};
+ghost use Rattle.scope.specs.Kinds.{kind_code, is_kind};
+ghost use Rattle.labels.specs.Says.{score_code};
 ghost use Rattle.scope.specs.Limits.{line_limit, residue_limit, bracket_limit, part_limit, count_limit};
 ghost use Rattle.scope.specs.Lists.{part};
 ghost use Rattle.scope.specs.Reading.{position_of};
@@ -15,21 +17,17 @@ ghost use Rattle.walk.specs.Stages.{with_heads, with_letters, Upto, Low, first_s
 ghost use Rattle.walk.specs.Steps.{gone_to, settled_in, head_put, Settled, count_put, wrong_count, CountNoted, places_put, PlacesStep, behind, group_of, letters_put, sections_put, RunSays, run_behind, HeadSays, NotedSays, least_before, BracketAsks, BracketStep, Stepped};
 ghost use Rattle.walk.specs.Walked.{WalkSays};
 
-use inside::{BracketAt, Parts};
-use scope::grammar::{Act, Kind, Mode, Section, Slot};
+use inside::Parts;
+use scope::grammar::{Act, Kind, Mode, Section, Slot, Stuck};
 use scope::tables::Tables;
 use sheet::{Head, Sheet};
-use sites::Listed;
 
-// The place where no line goes on; or how many residues and brackets the line holds, and the first refusal due of 5 to 9 and 19.
-#[derive(Drop)]
-pub enum Walked {
-    Stuck(usize),
-    Holds {
-        residues: usize,
-        brackets: usize,
-        least: usize,
-    },
+// How many residues and brackets a line holds, and the first refusal due of 5 to 9 and 19.
+#[derive(Clone, Copy)]
+pub struct Walked {
+    pub residues: usize,
+    pub brackets: usize,
+    pub least: usize,
 }
 
 // How far a line is walked: the place, how far its order has come, the number of residues, the position of the group's first, the numbers of brackets, of those that
@@ -46,13 +44,6 @@ struct Stage {
     least: usize,
 }
 
-// One step further: the place where no line goes on, or the next stage.
-#[derive(Drop)]
-enum Step {
-    Stuck(usize),
-    More(Stage),
-}
-
 // A byte that only carries the order on.
 fn gone(s: Stage, mode: Mode) -> Stage
     requires { Low s }
@@ -61,12 +52,7 @@ fn gone(s: Stage, mode: Mode) -> Stage
     Stage {
         at: s.at + 1,
         mode,
-        residues: s.residues,
-        group: s.group,
-        brackets: s.brackets,
-        run: s.run,
-        parts: s.parts,
-        least: s.least,
+        ..s
     }
 }
 
@@ -76,15 +62,7 @@ fn gone(s: Stage, mode: Mode) -> Stage
 fn letter_end(line: &[u8], at: usize) -> usize
     ensures { result ≡ at + span is_letter (drop at line.now) }
 {
-    let mut i = at;
-    while i < line.len() {
-        if classes::is_letter(line[i]) {
-            i += 1;
-        } else {
-            return i;
-        }
-    }
-    i
+    classes::run_end(line, at, classes::is_letter)
 }
 
 // The m letters at `at`, in capitals, behind the first n.
@@ -112,16 +90,11 @@ fn store_sections(sections: &mut [u8], n: usize, end: usize, first: u8, next: u8
     }
 }
 
+// The number of a section in the tables.
 fn section_code(section: Section) -> u8
     ensures { result ≡ section_code section }
 {
-    match section {
-        Section::Plain => 0,
-        Section::RangeFirst => 1,
-        Section::RangeNext => 2,
-        Section::UnsureFirst => 3,
-        Section::UnsureNext => 4,
-    }
+    section as u8
 }
 
 // The section of a letter behind a residue of this section.
@@ -169,16 +142,6 @@ fn group_of(section: Section, first: usize, last: usize, before: usize) -> usize
     }
 }
 
-// How many residues more there may be.
-fn room_left(n: usize) -> usize
-    ensures { result ≡ residue_limit - n }
-{
-    if n < Tables::RESIDUES {
-        return Tables::RESIDUES - n;
-    }
-    0
-}
-
 // A residue, with all letters behind it: they are residues of the same element or group.
 fn residues_read(line: &[u8], sheet: &mut Sheet, s: Stage, section: Section, mode: Mode) -> Stage
     requires { Low s × (s.at < length line.now) × (length line.now ≤ line_limit) }
@@ -193,31 +156,43 @@ fn residues_read(line: &[u8], sheet: &mut Sheet, s: Stage, section: Section, mod
         s.least,
         Tables::RESIDUES < n + m,
         dues::OVER,
-        at + room_left(n),
+        at + Tables::RESIDUES.saturating_sub(n),
     );
     Stage {
         at: end,
         mode,
         residues: n + m,
         group: group_of(section, n + 1, n + m, s.group),
-        brackets: s.brackets,
-        run: s.run,
-        parts: s.parts,
         least,
+        ..s
     }
 }
 
 // ---- a bracket
+
+// The number of a kind in the tables.
+fn kind_code(kind: Kind) -> usize
+    ensures { result ≡ kind_code kind }
+{
+    kind as usize
+}
+
+// Whether it is that kind.
+fn is_kind(kind: Kind, that: Kind) -> bool
+    ensures { result ≡ is_kind that kind }
+{
+    kind as usize == that as usize
+}
 
 // The position of a bracket behind n residues, where one on a range stands at `range`.
 fn position(kind: Kind, n: usize, range: usize) -> usize
     requires { n < line_limit }
     ensures { result ≡ position_of kind n range }
 {
-    if kind.is(Kind::OnRange) {
+    if is_kind(kind, Kind::OnRange) {
         return range;
     }
-    if kind.is(Kind::CTerm) {
+    if is_kind(kind, Kind::CTerm) {
         return n + 1;
     }
     n
@@ -225,19 +200,19 @@ fn position(kind: Kind, n: usize, range: usize) -> usize
 
 // The row of a bracket with these parts, which begins at this stage.
 fn head_of(s: Stage, kind: Kind, p: Parts) -> Head
-    requires { Low s × (p.count ≤ line_limit) × (p.labels ≤ p.count) }
+    requires { Low s × (p.count ≤ line_limit) × (p.labels ≤ p.count) × (score_code p.score < wide_limit) }
     ensures { HeadSays s kind p result }
 {
     Head {
         place: s.at,
-        kind: kind.code(),
+        kind: kind_code(kind),
         sort: inside::sort_of(p),
         first: position(kind, s.residues, s.group),
         last: position(kind, s.residues, s.residues),
         parts: p.count,
         labels: p.labels,
         base: s.parts,
-        score: p.score as usize,
+        score: labels::score_code(p.score),
     }
 }
 
@@ -256,10 +231,7 @@ fn store_head(sheet: &mut Sheet, k: usize, head: Head, points: i64)
 fn mode_behind(slot: Slot, refers: bool) -> Mode
     ensures { result ≡ cond refers slot.referred slot.after }
 {
-    if refers {
-        return slot.referred;
-    }
-    slot.after
+    if refers { slot.referred } else { slot.after }
 }
 
 // How many brackets are settled behind a bracket: one at the front waits.
@@ -267,7 +239,7 @@ fn run_behind(kind: Kind, run: usize, brackets: usize) -> usize
     requires { brackets < line_limit }
     ensures { result ≡ run_behind kind run brackets }
 {
-    if kind.is(Kind::Unknown) {
+    if is_kind(kind, Kind::Unknown) {
         return run;
     }
     brackets + 1
@@ -289,23 +261,22 @@ fn parts_behind(noted: bool, base: usize, count: usize) -> usize
 
 // A bracket that was read is noted.
 fn bracket_noted(sheet: &mut Sheet, s: Stage, slot: Slot, next: usize, p: Parts) -> Stage
-    requires { Low s × (p.count ≤ line_limit) × (p.labels ≤ p.count) }
+    requires { Low s × (p.count ≤ line_limit) × (p.labels ≤ p.count) × (score_code p.score < wide_limit) }
     ensures { NotedSays s slot next p result sheet.old sheet.new }
 {
     let kind = slot.kind;
-    let points = p.points;
+    let points = labels::score_points(p.score);
     let head = head_of(s, kind, p);
     store_head(sheet, s.brackets, head, points);
     let mode = mode_behind(slot, p.refers);
     Stage {
         at: next,
         mode,
-        residues: s.residues,
-        group: s.group,
         brackets: s.brackets + 1,
         run: run_behind(kind, s.run, s.brackets),
         parts: parts_behind(s.brackets < Tables::BRACKETS, s.parts, p.count),
         least: p.least,
+        ..s
     }
 }
 
@@ -315,7 +286,7 @@ fn least_before(s: Stage, kind: Kind) -> usize
     ensures { result ≡ least_before s kind }
 {
     let least = dues::due_if(s.least, Tables::BRACKETS <= s.brackets, dues::OVER, s.at);
-    if kind.is(Kind::Declared) {
+    if is_kind(kind, Kind::Declared) {
         if Tables::DECLARATIONS <= s.brackets {
             return dues::due(least, dues::OVER, s.at - 1);
         }
@@ -324,7 +295,7 @@ fn least_before(s: Stage, kind: Kind) -> usize
 }
 
 // A bracket.
-fn bracket_read(line: &[u8], sheet: &mut Sheet, s: Stage, slot: Slot) -> Step
+fn bracket_read(line: &[u8], sheet: &mut Sheet, s: Stage, slot: Slot) -> Result<Stage, Stuck>
     requires { BracketAsks line.now s slot }
     ensures { BracketStep line.now s slot result sheet.old sheet.new }
 {
@@ -340,11 +311,8 @@ fn bracket_read(line: &[u8], sheet: &mut Sheet, s: Stage, slot: Slot) -> Step
         s.brackets < Tables::BRACKETS,
         s.parts,
         least,
-    );
-    match found {
-        BracketAt::Stuck(p) => Step::Stuck(p),
-        BracketAt::Read { next, parts: p } => Step::More(bracket_noted(sheet, s, slot, next, p)),
-    }
+    )?;
+    Ok(bracket_noted(sheet, s, slot, found.next, found.parts))
 }
 
 // ---- a count
@@ -363,10 +331,7 @@ fn store_count(sheet: &mut Sheet, n: usize, value: usize)
 fn is_wrong_count(value: usize) -> bool
     ensures { result ≡ wrong_count value }
 {
-    if value == 0 {
-        return true;
-    }
-    Tables::COUNT < value
+    value == 0 || Tables::COUNT < value
 }
 
 // The digits of a count.
@@ -382,12 +347,8 @@ fn count_read(line: &[u8], sheet: &mut Sheet, s: Stage) -> Stage
     Stage {
         at: count.next,
         mode: Mode::Counting,
-        residues: s.residues,
-        group: s.group,
-        brackets: s.brackets,
-        run: s.run,
-        parts: s.parts,
         least,
+        ..s
     }
 }
 
@@ -404,29 +365,20 @@ fn store_places(sheet: &mut Sheet, n: usize, from: usize, many: usize)
 }
 
 // The list behind `@`.
-fn places_read(line: &[u8], sheet: &mut Sheet, s: Stage) -> Step
+fn places_read(line: &[u8], sheet: &mut Sheet, s: Stage) -> Result<Stage, Stuck>
     requires { Low s × (s.at < length line.now) × (length line.now ≤ line_limit) × (0 < s.brackets) }
     ensures { PlacesStep line.now s result sheet.old sheet.new }
 {
     let from = s.at + 1;
-    let list = sites::list_at(line, from);
-    match list {
-        Listed::Stuck(p) => Step::Stuck(p),
-        Listed::Ends { next, many, over } => {
-            store_places(sheet, s.brackets, from, many);
-            let least = dues::first_due(s.least, dues::OVER, over);
-            Step::More(Stage {
-                at: next,
-                mode: Mode::Listed,
-                residues: s.residues,
-                group: s.group,
-                brackets: s.brackets,
-                run: s.run,
-                parts: s.parts,
-                least,
-            })
-        }
-    }
+    let list = sites::list_at(line, from)?;
+    store_places(sheet, s.brackets, from, list.many);
+    let least = dues::first_due(s.least, dues::OVER, list.over);
+    Ok(Stage {
+        at: list.next,
+        mode: Mode::Listed,
+        least,
+        ..s
+    })
 }
 
 // ---- the end of the brackets at the front
@@ -439,12 +391,8 @@ fn settled_in(s: Stage, mode: Mode) -> Stage
     Stage {
         at: s.at + 1,
         mode,
-        residues: s.residues,
-        group: s.group,
-        brackets: s.brackets,
         run: s.brackets,
-        parts: s.parts,
-        least: s.least,
+        ..s
     }
 }
 
@@ -458,29 +406,19 @@ fn settle(sheet: &mut Sheet, first: usize, end: usize)
     }
 }
 
-// How many of n brackets are noted.
-fn noted_of(n: usize) -> usize
-    ensures { result ≡ min n bracket_limit }
-{
-    if n < Tables::BRACKETS {
-        return n;
-    }
-    Tables::BRACKETS
-}
-
 // `-`: they are N-terminal.
 fn term_ended(sheet: &mut Sheet, s: Stage) -> Stage
     requires { Low s }
     ensures { (result ≡ settled_in s Mode.Start) × Settled s.run (min s.brackets bracket_limit) sheet.old sheet.new }
 {
-    settle(sheet, s.run, noted_of(s.brackets));
+    settle(sheet, s.run, s.brackets.min(Tables::BRACKETS));
     settled_in(s, Mode::Start)
 }
 
 // ---- the line
 
 // One byte further, or one bracket, one count, one list of places, or all residues up to the next byte that is none.
-fn step_from(line: &[u8], sheet: &mut Sheet, s: Stage) -> Step
+fn step_from(line: &[u8], sheet: &mut Sheet, s: Stage) -> Result<Stage, Stuck>
     requires { (length line.now ≤ line_limit) × (s.at < length line.now) × Upto line.now s sheet.old }
     ensures { Stepped line.now s result sheet.new }
 {
@@ -488,31 +426,31 @@ fn step_from(line: &[u8], sheet: &mut Sheet, s: Stage) -> Step
     let mode = s.mode;
     let act = order::act_of(mode, line[at]);
     match act {
-        Act::Stop => Step::Stuck(at),
-        Act::Go(m) => Step::More(gone(s, m)),
-        Act::Residue(section, m) => Step::More(residues_read(line, sheet, s, section, m)),
+        Act::Stop => Err(Stuck { at }),
+        Act::Go(m) => Ok(gone(s, m)),
+        Act::Residue(section, m) => Ok(residues_read(line, sheet, s, section, m)),
         Act::Begin(slot) => bracket_read(line, sheet, s, slot),
-        Act::Digit => Step::More(count_read(line, sheet, s)),
-        Act::RunEnds => Step::More(settled_in(s, Mode::Runs)),
-        Act::TermEnds => Step::More(term_ended(sheet, s)),
+        Act::Digit => Ok(count_read(line, sheet, s)),
+        Act::RunEnds => Ok(settled_in(s, Mode::Runs)),
+        Act::TermEnds => Ok(term_ended(sheet, s)),
         Act::Places => places_read(line, sheet, s),
     }
 }
 
 // Behind the last byte.
-fn line_ended(line: &[u8], s: Stage) -> Walked
+fn line_ended(line: &[u8], s: Stage) -> Result<Walked, Stuck>
     requires { length line.now ≤ s.at }
     ensures { (t : Sheet) → Upto line.now s t → WalkSays line.now result t }
 {
     let mode = s.mode;
     if order::may_end(mode) {
-        return Walked::Holds {
+        return Ok(Walked {
             residues: s.residues,
             brackets: s.brackets,
             least: s.least,
-        };
+        });
     }
-    Walked::Stuck(line.len())
+    Err(Stuck { at: line.len() })
 }
 
 // Nothing read yet.
@@ -532,18 +470,14 @@ fn first_stage() -> Stage
 }
 
 // A line of at most 4,096 bytes. The sheet may hold anything before.
-pub fn walk(line: &[u8], sheet: &mut Sheet) -> Walked
+pub fn walk(line: &[u8], sheet: &mut Sheet) -> Result<Walked, Stuck>
     requires { length line.now ≤ line_limit }
     ensures { WalkSays line.now result sheet.new }
 {
     sheet.sized();
     let mut s = first_stage();
     while s.at < line.len() {
-        let next = step_from(line, sheet, s);
-        match next {
-            Step::Stuck(p) => return Walked::Stuck(p),
-            Step::More(t) => s = t,
-        }
+        s = step_from(line, sheet, s)?;
     }
     line_ended(line, s)
 }

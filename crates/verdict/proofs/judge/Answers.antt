@@ -11,12 +11,12 @@ returns-then-n-gt-LINE c = is_long _ c.if-n-eq0.false c.if-n-gt-LINE.true
 
 pub first_due-found-requires : goal.first_due-found-requires
 first_due-found-requires c =
-    walked_line _ c.if-n-eq0.false c.if-n-gt-LINE.false _ (rw c.in-Holds.is at c.walk-walked.ensures)
+    walked_line _ c.if-n-eq0.false c.if-n-gt-LINE.false _ (rw c.in-Ok.is at c.walk.ensures)
 
-pub returns-in-Stuck : goal.returns-in-Stuck
-returns-in-Stuck c =
-    stuck_says _ c.if-n-eq0.false c.if-n-gt-LINE.false _ _ _ (rw c.in-Stuck.is at c.walk-walked.ensures) c.not_read.ensures
+pub returns-in-Err : goal.returns-in-Err
+returns-in-Err c =
+    stuck_says _ c.if-n-eq0.false c.if-n-gt-LINE.false _ _ _ (rw c.in-Err.is at c.walk.ensures) c.not_read.ensures
 
-pub returns-in-Holds : goal.returns-in-Holds
-returns-in-Holds c =
-    line_says _ c.if-n-eq0.false c.if-n-gt-LINE.false _ (rw c.in-Holds.is at c.walk-walked.ensures) _ _ _ c.first_due-found.ensures c.by_code.ensures
+pub returns-in-Ok : goal.returns-in-Ok
+returns-in-Ok c =
+    line_says _ c.if-n-eq0.false c.if-n-gt-LINE.false _ (rw c.in-Ok.is at c.walk.ensures) _ _ _ c.first_due-found.ensures c.by_code.ensures

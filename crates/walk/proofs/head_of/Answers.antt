@@ -6,4 +6,4 @@ use Rattle.walk.proofs.head_of.Goals as goal
 
 pub returns : goal.returns
 returns c =
-    head_says c.args.s c.args.kind c.args.p c.requires.0 c.requires.1 c.requires.2 _ _ _ _ _ c.code.ensures c.sort_of.ensures.0 c.sort_of.ensures.1 c.position.ensures c.position-2.ensures refl (let x = c.struct_known-1.given.1.1.1.1.0 in omega arith)
+    head_says c.args.s c.args.kind c.args.p c.requires.0 c.requires.1 c.requires.2 _ _ _ _ _ c.kind_code.ensures c.sort_of.ensures.0 c.sort_of.ensures.1 c.position.ensures c.position-2.ensures c.score_code.ensures (omega (arith, c.requires.3, c.score_code.ensures))

@@ -32,14 +32,14 @@ few false b e = refl
 pub returns-then-s-ge-DECLARATIONS : goal.returns-then-s-ge-DECLARATIONS
 returns-then-s-ge-DECLARATIONS c =
     let a = c.args in
-    c.due.ensures ∙ one_due a.s a.kind _ c.due_if-least.ensures (sym c.is.ensures ∙ c.if-is.true) c.if-s-ge-DECLARATIONS.true
+    c.due.ensures ∙ one_due a.s a.kind _ c.due_if-least.ensures (sym c.is_kind.ensures ∙ c.if-is_kind.true) c.if-s-ge-DECLARATIONS.true
 
 pub returns-else-s-ge-DECLARATIONS : goal.returns-else-s-ge-DECLARATIONS
 returns-else-s-ge-DECLARATIONS c =
     let a = c.args in
     none_due a.s a.kind _ c.due_if-least.ensures (few (is_declared a.kind) _ (lt-leb _ _ c.if-s-ge-DECLARATIONS.false))
 
-pub returns-else-is : goal.returns-else-is
-returns-else-is c =
+pub returns-else-is_kind : goal.returns-else-is_kind
+returns-else-is_kind c =
     let a = c.args in
-    none_due a.s a.kind _ c.due_if-least.ensures (ap (λ t. t && leb declaration_limit a.s.brackets) (sym c.is.ensures ∙ c.if-is.false))
+    none_due a.s a.kind _ c.due_if-least.ensures (ap (λ t. t && leb declaration_limit a.s.brackets) (sym c.is_kind.ensures ∙ c.if-is_kind.false))

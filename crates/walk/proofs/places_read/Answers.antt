@@ -1,5 +1,7 @@
 -- A list of places read and noted, or the place where none goes on.
 use mathlib.Core.Path.{refl}
+use Rattle.std.proofs.lemmas.Result.{err_from_is_err_and}
+use Rattle.walk.proofs.Places.{before_fits}
 use native.Mathlib.Omega.{arith}
 use lib.ListN.{drop}
 use mathlib.Core.List.{map}
@@ -11,21 +13,23 @@ use Rattle.walk.proofs.places_read.Goals as goal
 pub store_places-requires : goal.store_places-requires
 store_places-requires c =
     let p = c.requires in
-    let w = then_reads _ _ c.list_at-list.result c.list_at-list.ensures c.in-Ends.is in
+    let w = then_reads _ _ c.list_at.result c.list_at.ensures c.in_ok-list.was in
     (p.3, omega (arith, p.1, p.2), omega (arith, w.many_within, w.within, p.2))
 
 pub first_due-least-requires : goal.first_due-least-requires
 first_due-least-requires c =
     let p = c.requires in
-    let w = then_reads _ _ c.list_at-list.result c.list_at-list.ensures c.in-Ends.is in
-    (search rules, omega (arith, w.over_within, w.within, p.2))
+    let w = then_reads _ _ c.list_at.result c.list_at.ensures c.in_ok-list.was in
+    (search rules, before_fits _ _ w.over_within (omega (arith, w.within, p.2)))
 
-pub returns-in-Stuck : goal.returns-in-Stuck
-returns-in-Stuck c = λ h. then_stuck _ _ c.list_at-list.result c.list_at-list.ensures c.in-Stuck.is h
+pub returns-in_err-list : goal.returns-in_err-list
+returns-in_err-list c =
+    let p = err_from_is_err_and c.from_residual.result c.from_residual.ensures.1 in
+    rw (p.1, p.2) (then_stuck _ _ c.list_at.result c.list_at.ensures c.in_err-list.was)
 
-pub returns-in-Ends : goal.returns-in-Ends
-returns-in-Ends c =
-    let w = then_reads _ _ c.list_at-list.result c.list_at-list.ensures c.in-Ends.is in
+pub returns : goal.returns
+returns c =
+    let w = then_reads _ _ c.list_at.result c.list_at.ensures c.in_ok-list.was in
     record {
       next = _;
       many = _;

@@ -1,5 +1,5 @@
 -- A residue read with the letters behind it: stored, and what is due of them.
-use mathlib.Core.Path.{ap, ◌∙◌}
+use mathlib.Core.Path.{refl, ap, ◌∙◌}
 use native.Mathlib.Omega.{arith}
 use Rattle.walk.specs.Stages.{with_letters}
 use Rattle.walk.specs.Steps.{letters_put, sections_put}
@@ -18,7 +18,7 @@ returns c =
     let t = c.args.sheet.now in
     let k = run_count line c.args.s c.args.section c.args.mode _ c.letter_end-end.ensures in
     record {
-      stage = run_stage line c.args.s c.args.section c.args.mode _ c.letter_end-end.ensures _ _ _ c.room_left.ensures c.group_of.ensures c.due_if-least.ensures;
+      stage = run_stage line c.args.s c.args.section c.args.mode _ c.letter_end-end.ensures _ _ _ c.saturating_sub.ensures c.group_of.ensures c.due_if-least.ensures;
       put =
           c.store_run.ensures
           ∙ ap (λ j. with_letters t (letters_put line c.args.s.at j c.args.s.residues t.letters) (sections_put c.args.section j c.args.s.residues t.sections)) k;

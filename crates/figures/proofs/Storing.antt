@@ -88,11 +88,6 @@ puts_length {o = o} {at = at} {s = s} a = ap length a.holds ∙ length_stored o 
 pub puts_exact : {m n : ℕ} {o : List ℕ} {at : ℕ} {s : List ℕ} {p : List ℕ} {q : ℕ} → length s ≤ n → Puts m o at s p q → Puts n o at s p q
 puts_exact h a = record { holds = a.holds; ends = a.ends; near = omega (arith, a.ends) }
 
--- where the most is known by an equation
-pub puts_under :
-    {m n b : ℕ} {o : List ℕ} {at : ℕ} {s : List ℕ} {p : List ℕ} {q : ℕ} → m ≡ b → b ≤ n → Puts m o at s p q → Puts n o at s p q
-puts_under e h a = puts_within (rw e h) a
-
 pub puts_of : {m : ℕ} {o : List ℕ} {at : ℕ} {s t : List ℕ} {p : List ℕ} {q : ℕ} → s ≡ t → Puts m o at s p q → Puts m o at t p q
 puts_of e a = rw e at a
 

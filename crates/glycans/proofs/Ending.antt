@@ -48,9 +48,6 @@ unfolding last_item
 wrong_count_lem t e = ap with_count e
 
 module _ {t : List ℕ} {start n : ℕ} (at : CountAt t start n) where
-  pub starts_within : start ≤ length t
-  starts_within = omega (arith, at.room)
-
   pub no_name : NameIs (take start t) None → last_item (back t) ≡ none
   unfolding last_item
   no_name e = ap with_count at.last ∙ ap (with_name at.written (back (take start t))) e

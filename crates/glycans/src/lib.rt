@@ -13,7 +13,7 @@ use scope::refusals::{Reason, Refusal};
 // ---- the list
 
 // A name, in "the list's spelling", and its mass in ten-thousandths.
-#[derive(Clone, Copy, Debug, PartialEq, Eq)]
+#[derive(Clone, Copy)]
 struct Sugar {
     name: &'static [u8],
     mass: u64,
@@ -107,7 +107,7 @@ fn last_name(text: &[u8]) -> Option<usize>
 // ---- the count that ends a text
 
 // Where it begins, and the count: 1 where none is written.
-#[derive(Clone, Copy, Debug, PartialEq, Eq)]
+#[derive(Clone, Copy)]
 struct Count {
     start: usize,
     count: u8,
@@ -162,7 +162,7 @@ fn one_digit(b: u8, n: usize) -> Option<Count>
 // ---- the piece that ends a text
 
 // A name with its count, 1 where none is written, and where it begins.
-#[derive(Clone, Copy, Debug, PartialEq, Eq)]
+#[derive(Clone, Copy)]
 struct Piece {
     start: usize,
     name: usize,

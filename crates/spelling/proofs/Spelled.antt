@@ -1,5 +1,4 @@
--- What is written of a key is its word and a colon, or nothing where it has no word: one test over the keys. What is written of a place, by its site.
--- Assumes nothing.
+-- What is written of a key is its word and a colon, or nothing where it has no word: one test over the keys. Assumes nothing.
 use mathlib.Core.Path.{◌≡◌, refl, sym, ap, ◌∙◌}
 use mathlib.Core.Bool.{cond}
 use mathlib.Core.List.{List, [], ◌∷◌, ◌++◌}
@@ -9,9 +8,8 @@ use lib.Dec.{eqb}
 use lib.ListN.{length}
 use borrow.Author.Tests.{eq-eqb, ne_eqb}
 use Rattle.scope.specs.declared.grammar.Key.{Key}
-use Rattle.scope.specs.Bytes.{bytes, colon}
+use Rattle.scope.specs.Bytes.{colon}
 use Rattle.scope.specs.Keys.{written, spell, keys}
-use Rattle.scope.specs.Places.{n_terminus, c_terminus, site_text}
 use Rattle.scope.specs.Lists.{all, same}
 use Rattle.basics.specs.Keys.{each_key}
 use Rattle.basics.specs.Lists.{same_law}
@@ -42,14 +40,3 @@ module _ (k : Key) {w : List ℕ} (is : w ≡ spell k) where
   puts_key some v u =
       let z : word_and_colon (spell k) ≡ spell k ++ (colon ∷ []) = rw (ne_eqb (length (spell k)) 0 (λ q. some (ap length is ∙ q))) in
       puts_of (sym z ∙ written_so k) (puts_within (omega (arith, few)) (puts_join (puts_of is v) u))
-
--- ---- places
-module _ (s : ℕ) where
-  pub site_n_term : s ≡ n_terminus → bytes "N-term" ≡ site_text s
-  site_n_term e = rw e
-
-  pub site_c_term : s ≡ c_terminus → bytes "C-term" ≡ site_text s
-  site_c_term e = rw e
-
-  pub site_letter : (s ≡ n_terminus → ⊥) → (s ≡ c_terminus → ⊥) → s ∷ [] ≡ site_text s
-  site_letter p q = rw (ne_eqb s n_terminus p, ne_eqb s c_terminus q)

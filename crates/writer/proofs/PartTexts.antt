@@ -1,6 +1,6 @@
 -- What the numbers of a part's row, and of its bracket's score, write. Assumes nothing.
-use mathlib.Core.Path.{◌≡◌, sym, ◌∙◌}
-use mathlib.Core.Bool.{true, false}
+use mathlib.Core.Path.{◌≡◌, refl, sym, ◌∙◌}
+use mathlib.Core.Bool.{Bool, true, false, cond}
 use mathlib.Core.List.{List, [], ◌∷◌, ◌++◌}
 use Prim.Native.Nat.{ℕ, ◌+◌, ◌-◌, ◌≤◌}
 use native.Mathlib.Omega.{arith}
@@ -79,3 +79,11 @@ module _ (b j : ℕ) (t : List ℕ) where
 
   pub next_later : (j ≡ 0 → ⊥) → (b ∷ []) ++ t ≡ next_text b j t
   next_later z = rw (ne_eqb j 0 z)
+
+-- the byte that splits, and what stands behind it
+pub next_split : (b j : ℕ) (t : List ℕ) → next_text b j [] ++ t ≡ next_text b j t
+next_split b j t = go (eqb j 0)
+  where
+    go : (x : Bool) → cond x [] (b ∷ []) ++ t ≡ cond x t (b ∷ t)
+    go true = refl
+    go false = refl

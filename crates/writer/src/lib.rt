@@ -160,24 +160,12 @@ fn put_part(
     put_label(bytes, numbers, k, j, out, e)
 }
 
-// Part j, behind a `|` where it is not the first.
-fn put_next_part(
-    bytes: &Bytes,
-    numbers: &Numbers,
-    k: usize,
-    j: usize,
-    out: &mut [u8],
-    at: usize,
-) -> usize
-    requires { PartHere bytes.now numbers.now k j × (at + next_most ≤ ceiling) }
-    ensures { Puts next_most out.old at (next_text bar j (part_text (part_in bytes.now numbers.now k j))) out.new result }
+// The byte that splits a row, before number j of it: before all but the first.
+fn put_split(b: u8, j: usize, out: &mut [u8], at: usize) -> usize
+    requires { at + 1 ≤ ceiling }
+    ensures { Puts 1 out.old at (next_text b j []) out.new result }
 {
-    if j == 0 {
-        put_part(bytes, numbers, k, j, out, at)
-    } else {
-        let a = put(out, at, b'|');
-        put_part(bytes, numbers, k, j, out, a)
-    }
+    if j == 0 { at } else { put(out, at, b) }
 }
 
 // ---- brackets
@@ -189,7 +177,8 @@ fn put_parts(bytes: &Bytes, numbers: &Numbers, k: usize, out: &mut [u8], at: usi
 {
     let mut a = at;
     for j in 0..areas::parts(bytes, k) {
-        a = put_next_part(bytes, numbers, k, j, out, a);
+        let e = put_split(b'|', j, out, a);
+        a = put_part(bytes, numbers, k, j, out, e);
     }
     a
 }
@@ -212,20 +201,6 @@ fn put_between(
     put(out, e, closer)
 }
 
-// Place j of bracket k, behind a `,` where it is not the first.
-fn put_next_place(bytes: &Bytes, k: usize, j: usize, out: &mut [u8], at: usize) -> usize
-    requires { (k < bracket_limit) × (j < place_limit) × (at + next_place_most ≤ ceiling) }
-    ensures { Puts next_place_most out.old at (next_text comma j (site_text (site_field bytes.now k j))) out.new result }
-{
-    let s = areas::site(bytes, k, j);
-    if j == 0 {
-        put_site(s, out, at)
-    } else {
-        let a = put(out, at, b',');
-        put_site(s, out, a)
-    }
-}
-
 // The places of bracket k, split by `,`.
 fn put_places(bytes: &Bytes, k: usize, out: &mut [u8], at: usize) -> usize
     requires { (k < bracket_limit) × (places_field bytes.now k ≤ place_limit) × (at + places_most ≤ ceiling) }
@@ -233,7 +208,8 @@ fn put_places(bytes: &Bytes, k: usize, out: &mut [u8], at: usize) -> usize
 {
     let mut a = at;
     for j in 0..areas::places(bytes, k) {
-        a = put_next_place(bytes, k, j, out, a);
+        let e = put_split(b',', j, out, a);
+        a = put_site(areas::site(bytes, k, j), out, e);
     }
     a
 }

@@ -7,4 +7,4 @@ use Rattle.calls.proofs.why_none.Goals as goal
 pub returns-in_err-bytes : goal.returns-in_err-bytes
 returns-in_err-bytes c =
     let same : c.from_residual.result ≡ Err c.in_err-bytes.field-0.0 = search rules in
-    subst (WhySays c.args.bytes.now c.args.numbers.now) (sym same) (why_refused _ _ _ (c.in_err-bytes.ensures tt))
+    subst (WhySays c.args.bytes.now c.args.numbers.now) (sym same) (why_refused _ _ _ c.in_err-bytes.ensures)

@@ -20,12 +20,11 @@ use Rattle.scope.specs.Layout.{part_rows, rows, bytes_of, numbers_of, part_in, b
 use Rattle.scope.specs.Positions.{sites, reached, is_placed, placed_on, struck_out, floaters, copies_from, referred_at, may_stand, permitted, rows_from, rows_of}
 use Rattle.scope.specs.Placements.{distinct, ascends, choices, placements, first_placement}
 use Rattle.scope.specs.Masses.{first_mass, mass_of, sum, total, sumℕ, lacking, placed_at, put_at, ledger}
-use Rattle.scope.specs.Answers.{refuses, same_numbers, are_tables, display_of, bookable}
+use Rattle.scope.specs.Answers.{refuses, lack, same_numbers, are_tables, display_of, bookable}
 use Rattle.scope.specs.Register.{fields, printed}
 use Rattle.outcomes.specs.Printing.{Sample, sample, agrees}
 use Rattle.scope.specs.declared.answers.Mass.{Mass}
 use Rattle.scope.specs.declared.answers.Mass.TheVariants.{Stated, Measured, None}
-use Rattle.scope.specs.declared.answers.Shown.TheVariants.{Missing}
 
 abbrev samples : List Sample
 samples =
@@ -75,8 +74,8 @@ answered = (refl, refl, refl, refl)
 
 -- 16 before anything is booked, whatever the placement
 pub counted_as_lacking :
-    (of (outcome (bytes "A[Obs:+1]")) (λ l. display_of (tables_of l)) ≡ some (Missing 1))
-    × (of (outcome (bytes "[Obs:+1]^3?ACD[+1]")) (λ l. display_of (tables_of l)) ≡ some (Missing 3))
+    (of (outcome (bytes "A[Obs:+1]")) (λ l. display_of (tables_of l)) ≡ some (lack 1))
+    × (of (outcome (bytes "[Obs:+1]^3?ACD[+1]")) (λ l. display_of (tables_of l)) ≡ some (lack 3))
     × (of (outcome (bytes "A[Obs:+1]")) (λ l. bookable (tables_of l) []) ≡ some (refuses 16 1))
     × (of (outcome (bytes "[Obs:+1]^3?ACD[+1]")) (λ l. bookable (tables_of l) (1 ∷ 2 ∷ 3 ∷ [])) ≡ some (refuses 16 3))
 unfolding upper same_folded same spell keys key_among key_of written digit_step number_end text_step part_end value_end text_end colon_after inner_step element further group_first in_group undecided counted referred act on_last place_step places_end perform resume step run reading all keep flat among copies least refusal1 refusal2 unprintable refusal3 too_deep refusal5 refusal6 refusal7 refusal8 is_rule_name refusal9 refusal10 refusal21 shared wrongly_labelled refusal11 passing refusal12 sugars behind_name starts cuttings_up_to cuttings cutting_mass refusal19 kept first_due outcome decimal_up_to decimal last_digits decimals size part_text parts_text places_text sequence_text chain_text canonical tables_of part_rows score_of rows bytes_of numbers_of tabled part_in bracket_in tables_in member sites reached is_placed placed_on struck_out floaters copies_from referred_at may_stand permitted rows_from rows_of distinct ascends choices placements first_placement first_mass mass_of sum total sumℕ lacking placed_at put_at ledger same_numbers are_tables fields printed

@@ -6,6 +6,7 @@ use mathlib.Core.Logic.{⊎_elim}
 use mathlib.Core.List.{List}
 use Prim.Native.Nat.{ℕ, ◌<◌, ◌≤◌, ◌+◌, ◌*◌}
 use native.Mathlib.Omega.{arith}
+use Rattle.std.specs.Prelude.{Option, None, Some, is_none}
 use lib.Dec.{eqb, leb, ltb}
 use lib.ListN.{length, get_or, set}
 use lib.Seq.{get_or-set_same, get_or-set_other}
@@ -18,7 +19,8 @@ use Rattle.exchange.specs.Order.{Verdict, Tried}
 use Rattle.exchange.proofs.Least.{same_more}
 use Rattle.areas.specs.Floats.{Sized}
 use Rattle.basics.specs.Tests.{same?, below?, and_left, both_of, both}
-use Rattle.exchange.specs.Table.{may_in, may_from, Open, Owned, Walkable, Growing, Grew, GrownIn, Shifted, Taken, Augmentable, Augmented, ReadyFrom}
+use Rattle.exchange.specs.declared.Standing.{Standing}
+use Rattle.exchange.specs.Table.{may_in, may_from, Open, Owned, Owner, Walkable, Growing, Grew, GrownIn, Shifted, Taken, Augmentable, Augmented, ReadyFrom}
 
 pub put_set : (l : List ℕ) (i x : ℕ) → i < length l → Put i x (place l) (place (set l i x))
 put_set l i x h = record { here = get_or-set_same l i x 0 h; else = λ t n. get_or-set_other l i t x 0 n }
@@ -50,27 +52,18 @@ pub ok_is : (tab : List ℕ) (s x : ℕ) → x < position_limit → may_in tab s
 unfolding may_in
 ok_is tab s x h = rw (lt-ltb x position_limit h)
 
-pub verdict : (b : Bool) (A B : Type 0) → (b ≡ true → A) → (b ≡ false → B) → Verdict b A B
-verdict true A B f g = f refl
-verdict false A B f g = g refl
-
-pub verdict_eq : (a b : ℕ) (A B : Type 0) → (a ≡ b → A) → ((a ≡ b → ⊥) → B) → Verdict (eqb a b) A B
-verdict_eq a b A B f g = verdict (eqb a b) A B (λ e. f (eqb-true a b e)) (λ e. g (eqb-false a b e))
-
 pub yes : {b : Bool} (A B : Type 0) → b ≡ true → Verdict b A B → A
 yes {b} A B e v = rw e at v
 
 pub no : {b : Bool} (A B : Type 0) → b ≡ false → Verdict b A B → B
 no {b} A B e v = rw e at v
 
-pub open_law : (tab w : List ℕ) (k j s x r : ℕ) → may_in tab s x ≡ true → Owned w k j x r → Open tab w k j s x (eqb r k)
-open_law tab w k j s x r o h =
-    verdict_eq r k ((may_in tab s x ≡ true) × FreeBut k j (place w) x) (may_in tab s x ≡ true → (t : ℕ) × (t < k) × (t ≡ j → ⊥) × (place w t ≡ x))
-    (λ e. (o, λ t l n q. h.before t (omega arith) n q))
-    (λ n z. let l : r < k = omega (arith, h.inside) in (r, l, h.other l, h.stands l))
-
 pub open_not : (tab w : List ℕ) (k j s x : ℕ) → may_in tab s x ≡ false → Open tab w k j s x false
 open_not tab w k j s x e z = absurd (true≢false (sym z ∙ e))
+
+pub open_law : (tab w : List ℕ) (k j s x : ℕ) (r : Option ℕ) → may_in tab s x ≡ true → Owned w k j x r → Open tab w k j s x (is_none r)
+open_law tab w k j s x None o h = (o, h)
+open_law tab w k j s x (Some t) o h = λ m. (t, h.inside, h.other, h.stands)
 
 -- ---- the tree
 upd : ℕ → ℕ → (ℕ → ℕ) → ℕ → ℕ
@@ -212,11 +205,10 @@ module _ (tab lows : List ℕ) (k f j : ℕ) (w : List ℕ) (ready : Augmentable
     searching_end l u g m = stuck (may_from tab lows) k f j (place w) n (place order) (place parent) s.grown (λ a b. s.shut a (omega arith)) u g m
 
 -- ---- one floater at one position
-module _ (tab lows : List ℕ) (k i y : ℕ) (w : List ℕ) (ready : ReadyFrom tab lows k i w) (o : may_from tab lows i y ≡ true) (t : ℕ) (h : Owned w k i y t) where
-  pub attempt_used : t < i → (u : ℕ → ℕ) → Full (may_from tab lows) k u → Same i (place w) u → u i ≡ y → ⊥
-  attempt_used l u f s e =
-      let z : t ≡ i =
-      f.apart t i (omega (arith, ready.inside)) ready.inside (sym (s t l) ∙ h.stands (omega (arith, ready.inside)) ∙ sym e) in omega arith
+module _ (tab lows : List ℕ) (k i y : ℕ) (w : List ℕ) (ready : ReadyFrom tab lows k i w) (o : may_from tab lows i y ≡ true) where
+  pub attempt_used : (t : ℕ) → Owner w k i y t → t < i → (u : ℕ → ℕ) → Full (may_from tab lows) k u → Same i (place w) u → u i ≡ y → ⊥
+  attempt_used t h l u f s e =
+      let z : t ≡ i = f.apart t i h.inside ready.inside (sym (s t l) ∙ h.stands ∙ sym e) in omega arith
 
   module _ (long : i < length w) where
     put : Put i y (place w) (place (set w i y))
@@ -225,22 +217,22 @@ module _ (tab lows : List ℕ) (k i y : ℕ) (w : List ℕ) (ready : ReadyFrom t
     below : Same i (place w) (place (set w i y))
     below s l = sym (put.else s (λ e. omega arith))
 
-    pub attempt_free : k ≤ t → Full (may_from tab lows) k (place (set w i y)) × Same i (place w) (place (set w i y)) × (place (set w i y) i ≡ y)
-    attempt_free l =
-        (fill (may_from tab lows) k i y (place w) (place (set w i y)) (full_but (may_from tab lows) k i (place w) ready.full) o (λ s m n e. h.before s (omega arith) n e) put, below, put.here)
+    pub attempt_free : FreeBut k i (place w) y → Full (may_from tab lows) k (place (set w i y)) × Same i (place w) (place (set w i y)) × (place (set w i y) i ≡ y)
+    attempt_free h =
+        (fill (may_from tab lows) k i y (place w) (place (set w i y)) (full_but (may_from tab lows) k i (place w) ready.full) o (λ s m n e. h s m n e) put, below, put.here)
 
-    pub attempt_over : i ≤ t → t < k → Augmentable tab lows k (i + 1) t (set w i y)
-    attempt_over l m =
+    pub attempt_over : (t : ℕ) → Owner w k i y t → i ≤ t → Augmentable tab lows k (i + 1) t (set w i y)
+    attempt_over t h l =
         record {
           sized = ready.sized;
-          low = let n = h.other m in omega (arith, n);
-          high = m;
-          but = take_over (may_from tab lows) k i t y (place w) (place (set w i y)) ready.full ready.inside m (h.other m) o (h.stands m) put;
+          low = let n = h.other in omega (arith, n);
+          high = h.inside;
+          but = take_over (may_from tab lows) k i t y (place w) (place (set w i y)) ready.full ready.inside h.inside h.other o h.stands put;
         }
 
-    pub attempt_augmented : (b : Bool) (r : List ℕ) → Augmented tab lows k (i + 1) (set w i y) b r → Tried (may_from tab lows) k i y (place w) b (place r)
-    attempt_augmented true r a = (a.0, (λ s l. below s l ∙ a.1 s (omega arith)), sym (a.1 i (omega arith)) ∙ put.here)
-    attempt_augmented false r a = λ u f s e. a u f (same_more i (place (set w i y)) u (λ q l. sym (below q l) ∙ s q l) (put.here ∙ sym e))
+    pub attempt_augmented : (r : Option Standing) → Augmented tab lows k (i + 1) (set w i y) r → Tried (may_from tab lows) k i y (place w) r
+    attempt_augmented (Some v) a = (a.0, (λ s l. below s l ∙ a.1 s (omega arith)), sym (a.1 i (omega arith)) ∙ put.here)
+    attempt_augmented None a = λ u f s e. a u f (same_more i (place (set w i y)) u (λ q l. sym (below q l) ∙ s q l) (put.here ∙ sym e))
 
 pub attempt_not : (tab lows : List ℕ) (k i y : ℕ) (w : List ℕ) → i < k → may_from tab lows i y ≡ false → (u : ℕ → ℕ) → Full (may_from tab lows) k u → Same i (place w) u
     → u i ≡ y → ⊥

@@ -6,7 +6,7 @@ use Prim.Native.Nat.{ℕ, ◌<◌, ◌≤◌, ◌+◌}
 use native.Mathlib.Omega.{arith}
 use Rattle.basics.specs.Tests.{same?, below?}
 use Rattle.placement_laws.specs.Standing.{Full, Good, Same, Before, Upto}
-use Rattle.exchange.specs.Order.{Sought, Lowered, Settled, Next}
+use Rattle.exchange.specs.Order.{Lowered, Settled}
 
 pub same_more : (i : ℕ) (w v : ℕ → ℕ) → Same i w v → w i ≡ v i → Same (i + 1) w v
 same_more i w v h e s l = ⊎_elim (λ (q : s ≡ i). subst (λ z. w z ≡ v z) (sym q) e) (λ n. h s (omega arith)) (same? s i)
@@ -37,8 +37,8 @@ module _ (ok : ℕ → ℕ → Bool) (k : ℕ) where
   pub lowered_yes : (i y : ℕ) (w v : ℕ → ℕ) → Passed i y w → Full ok k v → Same i w v → v i ≡ y → Lowered ok k i w v
   lowered_yes i y w v p f s e = (f, s, λ u g t. ⊎_elim (λ (q : u i < y). absurd (p u g t q)) (λ (q : y ≤ u i). omega arith) (below? (u i) y))
 
-  pub lowered_no : (i : ℕ) (w v : ℕ → ℕ) → Full ok k w → Sought ok k i (w i) w false v → Lowered ok k i w w
-  lowered_no i w v f r = (f, (λ s l. refl), λ u g e. ⊎_elim (λ q. absurd (r u g e q)) (λ q. q) (below? (u i) (w i)))
+  pub lowered_no : (i : ℕ) (w : ℕ → ℕ) → Full ok k w → ((u : ℕ → ℕ) → Full ok k u → Same i w u → u i < w i → ⊥) → Lowered ok k i w w
+  lowered_no i w f r = (f, (λ s l. refl), λ u g e. ⊎_elim (λ q. absurd (r u g e q)) (λ q. q) (below? (u i) (w i)))
 
   -- ---- the least placement with given first floaters
   pub record Settling (from i : ℕ) (w v : ℕ → ℕ) : Type 0 where
@@ -89,7 +89,8 @@ module _ (ok : ℕ → ℕ → Bool) (mark : ℕ → Bool) (k : ℕ) where
   nothing_step i w n h u f b = ⊎_elim (λ c. c) (λ a. absurd (h u f a)) (either (n u f b))
 
   pub next_found : (i : ℕ) (w v : ℕ → ℕ) → i < k → Nothing (i + 1) w → Good ok mark k v → Above i w v
-      → ((u : ℕ → ℕ) → Good ok mark k u → Above i w u → Upto k v u) → Next ok mark k w true v
+      → ((u : ℕ → ℕ) → Good ok mark k u → Above i w u → Upto k v u)
+      → Good ok mark k v × Before k w v × ((u : ℕ → ℕ) → Good ok mark k u → Before k w u → Upto k v u)
   next_found i w v l n g a least = (
     g,
     record { d = i; inside = l; same = a.0; less = a.1 },

@@ -1,11 +1,12 @@
 -- What the table says, and what the steps of the search promise.
-use Rattle.std.specs.Prelude.{◌≡◌, Bool, true, false, ◌&&◌, List, ℕ, ◌<◌, ◌≤◌, ◌+◌, ◌*◌, eqb, leb, ltb, get_or}
+use Rattle.std.specs.Prelude.{◌≡◌, Bool, true, false, ◌&&◌, List, Option, MatchOption, ℕ, ◌<◌, ◌≤◌, ◌+◌, ◌*◌, eqb, leb, ltb, get_or}
 use Rattle.scope.specs.Limits.{copy_limit, position_limit}
 use Rattle.areas.specs.Floats.{Sized}
 use Rattle.scope.specs.Positions.{is_further}
 use Rattle.placement_laws.specs.Standing.{place, Full, Good, Alike, Same}
 use Rattle.placement_laws.specs.Where.{But, FreeBut, Grown, Shifting}
 use Rattle.exchange.specs.Order.{Verdict}
+use Rattle.exchange.specs.declared.Standing.{Standing}
 
 -- floater s may stand at x
 unfoldable pub may_in : List ℕ → ℕ → ℕ → Bool
@@ -19,12 +20,16 @@ may_from tab lows s x = leb (place lows s) x && may_in tab s x
 abbrev pub mark_in : List ℕ → ℕ → Bool
 mark_in copy s = is_further (place copy s)
 
--- the first other than `but` that stands at x, or k
-pub record Owned (w : List ℕ) (k but x r : ℕ) : Type 0 where
-  pub inside : r ≤ k
-  pub other : r < k → r ≡ but → ⊥
-  pub stands : r < k → place w r ≡ x
-  pub before : (t : ℕ) → t < r → (t ≡ but → ⊥) → place w t ≡ x → ⊥
+-- t is the first other than `but` that stands at x
+pub record Owner (w : List ℕ) (k but x t : ℕ) : Type 0 where
+  pub inside : t < k
+  pub other : t ≡ but → ⊥
+  pub stands : place w t ≡ x
+  pub before : (u : ℕ) → u < t → (u ≡ but → ⊥) → place w u ≡ x → ⊥
+
+-- the first, or nobody does
+abbrev pub Owned : List ℕ → ℕ → ℕ → ℕ → Option ℕ → Type 0
+Owned w k but x r = MatchOption r (FreeBut k but (place w) x) (λ t. Owner w k but x t)
 
 -- s may stand at x and nobody but j does
 abbrev pub Open : List ℕ → List ℕ → ℕ → ℕ → ℕ → ℕ → Bool → Type 0
@@ -35,11 +40,9 @@ Open tab w k j s x r =
 abbrev pub Taken : List ℕ → List ℕ → ℕ → ℕ → List ℕ → ℕ → Type 0
 Taken tab lows k j w s = (x : ℕ) → may_from tab lows s x ≡ true → (t : ℕ) × (t < k) × (t ≡ j → ⊥) × (place w t ≡ x)
 
--- a position of s where nobody but j stands, or positionLimit
-pub record Spare (tab lows w : List ℕ) (k j s r : ℕ) : Type 0 where
-  pub may : r < position_limit → may_from tab lows s r ≡ true
-  pub clear : r < position_limit → FreeBut k j (place w) r
-  pub taken : position_limit ≤ r → Taken tab lows k j w s
+-- a position of s where nobody but j stands, or there is none
+abbrev pub Spare : List ℕ → List ℕ → List ℕ → ℕ → ℕ → ℕ → Option ℕ → Type 0
+Spare tab lows w k j s r = MatchOption r (Taken tab lows k j w s) (λ x. (may_from tab lows s x ≡ true) × FreeBut k j (place w) x)
 
 abbrev pub Listed : List ℕ → ℕ → ℕ → Bool → Type 0
 Listed order n t r = Verdict r ((a : ℕ) × (a < n) × (place order a ≡ t)) ((a : ℕ) → a < n → place order a ≡ t → ⊥)
@@ -77,9 +80,10 @@ pub record Augmentable (tab lows : List ℕ) (k f j : ℕ) (w : List ℕ) : Type
   pub high : j < k
   pub but : But (may_from tab lows) k j (place w)
 
-abbrev pub Augmented : List ℕ → List ℕ → ℕ → ℕ → List ℕ → Bool → List ℕ → Type 0
-Augmented tab lows k f w b r =
-    Verdict b (Full (may_from tab lows) k (place r) × Same f (place w) (place r)) ((u : ℕ → ℕ) → Full (may_from tab lows) k u → Same f (place w) u → ⊥)
+abbrev pub Augmented : List ℕ → List ℕ → ℕ → ℕ → List ℕ → Option Standing → Type 0
+Augmented tab lows k f w r =
+    MatchOption r ((u : ℕ → ℕ) → Full (may_from tab lows) k u → Same f (place w) u → ⊥)
+    (λ v. Full (may_from tab lows) k (place v.at) × Same f (place w) (place v.at))
 
 pub record ReadyFrom (tab lows : List ℕ) (k i : ℕ) (w : List ℕ) : Type 0 where
   pub sized : Sized tab k

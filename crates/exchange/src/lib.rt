@@ -14,30 +14,25 @@ ghost use Rattle.exchange.specs.Table.{may_in, may_from, mark_in, Owned, Open, S
 use scope::answers::{Ledger, Placement};
 
 // Where each floater stands.
-#[derive(Clone, Copy)]
+#[derive(Clone, Copy, Debug, PartialEq, Eq)]
 pub struct Standing {
     pub at: [usize; Placement::COPIES],
 }
 
-// The least position that each floater may take.
-#[derive(Clone, Copy)]
-pub struct Lows {
-    pub at: [usize; Placement::COPIES],
-}
-
-// Whether there is one, and which.
-#[derive(Drop)]
-pub struct Answer {
-    pub ok: bool,
-    pub at: Standing,
-}
-
 // The floaters that may have to move, in the order found: each but the first with the index of the one that wants its position.
 #[derive(Clone, Copy)]
-pub struct Tree {
-    pub n: usize,
-    pub order: [usize; Placement::COPIES],
-    pub parent: [usize; Placement::COPIES],
+struct Tree {
+    n: usize,
+    order: [usize; Placement::COPIES],
+    parent: [usize; Placement::COPIES],
+}
+
+// The table of where floaters may stand, the least position that each may take, and how many there are.
+#[derive(Clone, Copy)]
+struct Search<'a> {
+    tab: &'a [u8],
+    lows: [usize; Placement::COPIES],
+    k: usize,
 }
 
 // May floater s stand at x?
@@ -45,220 +40,185 @@ pub fn may(tab: &[u8], s: usize, x: usize) -> bool
     requires { (row_limit ≤ length tab.now) × (s < copy_limit) × (x < position_limit) }
     ensures { result ≡ may_in tab.now s x }
 {
-    let i = s * Ledger::POSITIONS + x;
-    let b = tab[i];
-    b == 1
+    tab[s * Ledger::POSITIONS + x] == 1
 }
 
-// May floater s stand at x, no lower than its least position?
-fn may_from(tab: &[u8], lows: Lows, s: usize, x: usize) -> bool
-    requires { (row_limit ≤ length tab.now) × (s < copy_limit) × (x < position_limit) }
-    ensures { result ≡ may_from tab.now lows.at s x }
-{
-    if x < lows.at[s] {
-        return false;
-    }
-    may(tab, s, x)
-}
-
-// The first floater other than `but` that stands at x, or k.
-fn owner(w: Standing, k: usize, but: usize, x: usize) -> usize
+// The first floater other than `but` that stands at x.
+fn owner(w: &Standing, k: usize, but: usize, x: usize) -> Option<usize>
     requires { k ≤ copy_limit }
-    ensures { Owned w.at k but x result }
+    ensures { Owned w.now.at k but x result }
 {
-    let mut t = 0;
-    while t < k {
-        if w.at[t] == x {
-            if t != but {
-                return t;
-            }
+    for t in 0..k {
+        if w.at[t] == x && t != but {
+            return Some(t);
         }
-        t += 1;
     }
-    k
+    None
 }
 
 // May s stand at x, and nobody but `but` does?
-pub fn open_at(tab: &[u8], w: Standing, k: usize, but: usize, s: usize, x: usize) -> bool
+pub fn open_at(tab: &[u8], w: &Standing, k: usize, but: usize, s: usize, x: usize) -> bool
     requires { Sized tab.now k × (s < copy_limit) × (x < position_limit) }
-    ensures { Open tab.now w.at k but s x result }
+    ensures { Open tab.now w.now.at k but s x result }
 {
-    if may(tab, s, x) {
-        return owner(w, k, but, x) == k;
-    }
-    false
+    may(tab, s, x) && owner(w, k, but, x).is_none()
 }
 
-// The first position of floater s, from its least on, at which nobody but `but` stands, or the number of positions.
-fn spare(tab: &[u8], lows: Lows, w: Standing, k: usize, but: usize, s: usize) -> usize
-    requires { Sized tab.now k × (s < copy_limit) }
-    ensures { Spare tab.now lows.at w.at k but s result }
-{
-    let mut x = lows.at[s];
-    while x < Ledger::POSITIONS {
-        if open_at(tab, w, k, but, s, x) {
-            return x;
+impl Tree {
+    // The tree with t, which stands where the h-th may.
+    fn push(&mut self, h: usize, t: usize)
+        requires { self.old.n < copy_limit }
+        ensures { (self.new.n ≡ self.old.n + 1) × (self.new.order ≡ set self.old.order self.old.n t) × (self.new.parent ≡ set self.old.parent self.old.n h) }
+    {
+        let n = self.n;
+        self.order[n] = t;
+        self.parent[n] = h;
+        self.n = n + 1;
+    }
+
+    // Is t in it?
+    fn lists(&self, t: usize) -> bool
+        requires { self.now.n ≤ copy_limit }
+        ensures { Listed self.now.order self.now.n t result }
+    {
+        self.order[..self.n].contains(&t)
+    }
+
+    // The h-th takes x, the one that wanted its place takes that, and so on up to the first.
+    fn shift(&self, p: &Standing, h: usize, x0: usize) -> Standing
+        requires { Walkable self.now.n h self.now.order self.now.parent }
+        ensures { Shifted p.now.at self.now.n self.now.order self.now.parent h x0 result.at }
+    {
+        let mut w = *p;
+        let mut a = h;
+        let mut x = x0;
+        // a `while`: the way leads from each to its parent, no step of one
+        while 0 < a {
+            let s = self.order[a];
+            let old = w.at[s];
+            w.at[s] = x;
+            x = old;
+            a = self.parent[a];
         }
-        x += 1;
+        let j = self.order[0];
+        w.at[j] = x;
+        w
     }
-    Ledger::POSITIONS
 }
 
-// Is t among the first n?
-fn listed(order: [usize; Placement::COPIES], n: usize, t: usize) -> bool
-    requires { n ≤ copy_limit }
-    ensures { Listed order n t result }
-{
-    let mut a = 0;
-    while a < n {
-        if order[a] == t {
-            return true;
-        }
-        a += 1;
+impl<'a> Search<'a> {
+    // May floater s stand at x, no lower than its least position?
+    fn may_from(&self, s: usize, x: usize) -> bool
+        requires { (row_limit ≤ length self.now.tab.now) × (s < copy_limit) × (x < position_limit) }
+        ensures { result ≡ may_from self.now.tab.now self.now.lows s x }
+    {
+        self.lows[s] <= x && may(self.tab, s, x)
     }
-    false
-}
 
-// The tree with t, which stands where the h-th may.
-fn push(tree: Tree, h: usize, t: usize) -> Tree
-    requires { tree.n < copy_limit }
-    ensures { (result.n ≡ tree.n + 1) × (result.order ≡ set tree.order tree.n t) × (result.parent ≡ set tree.parent tree.n h) }
-{
-    let mut g = tree;
-    let n = tree.n;
-    g.order[n] = t;
-    g.parent[n] = h;
-    g.n = n + 1;
-    g
-}
-
-// The tree, with every floater from f on that is new and stands where the h-th may.
-fn grow(tab: &[u8], lows: Lows, w: Standing, k: usize, f: usize, h: usize, tree: Tree) -> Tree
-    requires { Growing tab.now lows.at k f h w.at tree.n tree.order tree.parent }
-    ensures { Grew tab.now lows.at k f h w.at f k tree.n tree.order result.n result.order result.parent }
-{
-    let s = tree.order[h];
-    let mut g = tree;
-    let mut t = f;
-    while t < k {
-        let order = g.order;
-        let n = g.n;
-        if !listed(order, n, t) {
-            let x = w.at[t];
-            if may_from(tab, lows, s, x) {
-                g = push(g, h, t);
+    // The first position of floater s, from its least on, at which nobody but `but` stands.
+    fn spare(&self, w: &Standing, but: usize, s: usize) -> Option<usize>
+        requires { Sized self.now.tab.now self.now.k × (s < copy_limit) }
+        ensures { Spare self.now.tab.now self.now.lows w.now.at self.now.k but s result }
+    {
+        for x in self.lows[s]..Ledger::POSITIONS {
+            if open_at(self.tab, w, self.k, but, s, x) {
+                return Some(x);
             }
         }
-        t += 1;
+        None
     }
-    g
-}
 
-// The h-th takes x, the one that wanted its place takes that, and so on up to the first.
-fn shift(p: Standing, tree: Tree, h: usize, x0: usize) -> Standing
-    requires { Walkable tree.n h tree.order tree.parent }
-    ensures { Shifted p.at tree.n tree.order tree.parent h x0 result.at }
-{
-    let mut w = p;
-    let mut a = h;
-    let mut x = x0;
-    while 0 < a {
-        let s = tree.order[a];
-        let old = w.at[s];
-        w.at[s] = x;
-        x = old;
-        a = tree.parent[a];
-    }
-    let j = tree.order[0];
-    w.at[j] = x;
-    w
-}
-
-// All but floater j stand: can j be placed too, when those below f stay?
-fn augment(tab: &[u8], lows: Lows, k: usize, f: usize, j: usize, w: Standing) -> Answer
-    requires { Augmentable tab.now lows.at k f j w.at }
-    ensures { Augmented tab.now lows.at k f w.at result.ok result.at.at }
-{
-    let mut tree = Tree {
-        n: 1,
-        order: [0; Placement::COPIES],
-        parent: [0; Placement::COPIES],
-    };
-    tree.order[0] = j;
-    let mut h = 0;
-    while h < tree.n {
+    // Every floater from f on that is new to the tree and stands where the h-th may is added.
+    fn grow(&self, w: &Standing, f: usize, h: usize, tree: &mut Tree)
+        requires { Growing self.now.tab.now self.now.lows self.now.k f h w.now.at tree.old.n tree.old.order tree.old.parent }
+        ensures { Grew self.now.tab.now self.now.lows self.now.k f h w.now.at f self.now.k tree.old.n tree.old.order tree.new.n tree.new.order tree.new.parent }
+    {
         let s = tree.order[h];
-        let x = spare(tab, lows, w, k, j, s);
-        if x < Ledger::POSITIONS {
-            let v = shift(w, tree, h, x);
-            return Answer { ok: true, at: v };
-        }
-        tree = grow(tab, lows, w, k, f, h, tree);
-        h += 1;
-    }
-    Answer { ok: false, at: w }
-}
-
-// Floater i at y, where it may stand, those below i unmoved?
-fn placed(tab: &[u8], lows: Lows, k: usize, i: usize, y: usize, p: Standing) -> Answer
-    requires { ReadyFrom tab.now lows.at k i p.at × (may_from tab.now lows.at i y ≡ true) }
-    ensures { Tried (may_from tab.now lows.at) k i y (place p.at) result.ok (place result.at.at) }
-{
-    let mut w = p;
-    let t = owner(w, k, i, y);
-    if t < i {
-        return Answer { ok: false, at: w };
-    }
-    w.at[i] = y;
-    if t < k {
-        return augment(tab, lows, k, i + 1, t, w);
-    }
-    Answer { ok: true, at: w }
-}
-
-// The least y below `to` that floater i can take, those below i unmoved.
-fn seek(tab: &[u8], lows: Lows, k: usize, i: usize, to: usize, w: Standing) -> Answer
-    requires { ReadyFrom tab.now lows.at k i w.at × (to ≤ position_limit) }
-    ensures { Sought (may_from tab.now lows.at) k i to (place w.at) result.ok (place result.at.at) }
-{
-    let mut y = lows.at[i];
-    while y < to {
-        if may(tab, i, y) {
-            let r = placed(tab, lows, k, i, y, w);
-            if r.ok {
-                return r;
+        for t in f..self.k {
+            if !tree.lists(t) && self.may_from(s, w.at[t]) {
+                tree.push(h, t);
             }
         }
-        y += 1;
     }
-    Answer { ok: false, at: w }
-}
 
-// Floater i at its least, those below i unmoved.
-fn lowered(tab: &[u8], lows: Lows, k: usize, i: usize, w: Standing) -> Standing
-    requires { ReadyFrom tab.now lows.at k i w.at }
-    ensures { Lowered (may_from tab.now lows.at) k i (place w.at) (place result.at) }
-{
-    let x = w.at[i];
-    let r = seek(tab, lows, k, i, x, w);
-    if r.ok {
-        return r.at;
+    // All but floater j stand: can j be placed too, when those below f stay?
+    fn augment(&self, f: usize, j: usize, w: &Standing) -> Option<Standing>
+        requires { Augmentable self.now.tab.now self.now.lows self.now.k f j w.now.at }
+        ensures { Augmented self.now.tab.now self.now.lows self.now.k f w.now.at result }
+    {
+        let mut tree = Tree {
+            n: 1,
+            order: [j; Placement::COPIES],
+            parent: [0; Placement::COPIES],
+        };
+        let mut h = 0;
+        // a `while`: the tree grows while it is walked
+        while h < tree.n {
+            if let Some(x) = self.spare(w, j, tree.order[h]) {
+                return Some(tree.shift(w, h, x));
+            }
+            self.grow(w, f, h, &mut tree);
+            h += 1;
+        }
+        None
     }
-    w
-}
 
-// The least placement that agrees with w below `from`.
-fn settle(tab: &[u8], lows: Lows, k: usize, from: usize, p: Standing) -> Standing
-    requires { Sized tab.now k × (from ≤ k) × Full (may_from tab.now lows.at) k (place p.at) }
-    ensures { Settled (may_from tab.now lows.at) k from (place p.at) (place result.at) }
-{
-    let mut w = p;
-    let mut i = from;
-    while i < k {
-        w = lowered(tab, lows, k, i, w);
-        i += 1;
+    // Floater i at y, where it may stand, those below i unmoved?
+    fn placed(&self, i: usize, y: usize, p: &Standing) -> Option<Standing>
+        requires { ReadyFrom self.now.tab.now self.now.lows self.now.k i p.now.at × (may_from self.now.tab.now self.now.lows i y ≡ true) }
+        ensures { Tried (may_from self.now.tab.now self.now.lows) self.now.k i y (place p.now.at) result }
+    {
+        let mut w = *p;
+        w.at[i] = y;
+        match owner(p, self.k, i, y) {
+            None => Some(w),
+            Some(t) => {
+                if t < i {
+                    None
+                } else {
+                    self.augment(i + 1, t, &w)
+                }
+            }
+        }
     }
-    w
+
+    // The least y below `to` that floater i can take, those below i unmoved.
+    fn seek(&self, i: usize, to: usize, w: &Standing) -> Option<Standing>
+        requires { ReadyFrom self.now.tab.now self.now.lows self.now.k i w.now.at × (to ≤ position_limit) }
+        ensures { Sought (may_from self.now.tab.now self.now.lows) self.now.k i to (place w.now.at) result }
+    {
+        for y in self.lows[i]..to {
+            if may(self.tab, i, y) {
+                if let Some(v) = self.placed(i, y, w) {
+                    return Some(v);
+                }
+            }
+        }
+        None
+    }
+
+    // Floater i at its least, those below i unmoved.
+    fn lowered(&self, i: usize, w: &Standing) -> Standing
+        requires { ReadyFrom self.now.tab.now self.now.lows self.now.k i w.now.at }
+        ensures { Lowered (may_from self.now.tab.now self.now.lows) self.now.k i (place w.now.at) (place result.at) }
+    {
+        match self.seek(i, w.at[i], w) {
+            Some(v) => v,
+            None => *w,
+        }
+    }
+
+    // The least placement that agrees with w below `from`.
+    fn settle(&self, from: usize, p: Standing) -> Standing
+        requires { Sized self.now.tab.now self.now.k × (from ≤ self.now.k) × Full (may_from self.now.tab.now self.now.lows) self.now.k (place p.at) }
+        ensures { Settled (may_from self.now.tab.now self.now.lows) self.now.k from (place p.at) (place result.at) }
+    {
+        let mut w = p;
+        for i in from..self.k {
+            w = self.lowered(i, &w);
+        }
+        w
+    }
 }
 
 // The first position of floater s, or the number of positions.
@@ -266,28 +226,22 @@ fn first_of(tab: &[u8], s: usize) -> usize
     requires { (row_limit ≤ length tab.now) × (s < copy_limit) }
     ensures { FirstOf tab.now s result }
 {
-    let mut x = 0;
-    while x < Ledger::POSITIONS {
+    for x in 0..Ledger::POSITIONS {
         if may(tab, s, x) {
             return x;
         }
-        x += 1;
     }
     Ledger::POSITIONS
 }
 
 // The first position of each floater.
-fn lowest(tab: &[u8], k: usize) -> Lows
+fn lowest(tab: &[u8], k: usize) -> [usize; Placement::COPIES]
     requires { Sized tab.now k }
-    ensures { Lowest tab.now k result.at }
+    ensures { Lowest tab.now k result }
 {
-    let mut lows = Lows {
-        at: [0; Placement::COPIES],
-    };
-    let mut s = 0;
-    while s < k {
-        lows.at[s] = first_of(tab, s);
-        s += 1;
+    let mut lows = [0; Placement::COPIES];
+    for s in 0..k {
+        lows[s] = first_of(tab, s);
     }
     lows
 }
@@ -301,62 +255,63 @@ pub fn is_further(copy: [u8; Placement::COPIES], s: usize) -> bool
 }
 
 // The least positions with `low` for i and the further copies directly behind it.
-fn raised(old: Lows, copy: [u8; Placement::COPIES], k: usize, i: usize, low: usize) -> Lows
+fn raised(
+    old: [usize; Placement::COPIES],
+    copy: [u8; Placement::COPIES],
+    k: usize,
+    i: usize,
+    low: usize,
+) -> [usize; Placement::COPIES]
     requires { (i < k) × (k ≤ copy_limit) }
-    ensures { Raised (mark_in copy) k i low old.at result.at }
+    ensures { Raised (mark_in copy) k i low old result }
 {
     let mut lows = old;
-    lows.at[i] = low;
-    let mut s = i + 1;
-    while s < k {
+    lows[i] = low;
+    for s in i + 1..k {
         if !is_further(copy, s) {
             return lows;
         }
-        lows.at[s] = low;
-        s += 1;
+        lows[s] = low;
     }
     lows
 }
 
 // The least placement after w with the copies of each bracket in ascending order, as w has them.
-pub fn next(tab: &[u8], copy: [u8; Placement::COPIES], k: usize, w: Standing) -> Answer
-    requires { Continuing tab.now copy k w.at }
-    ensures { Next (may_in tab.now) (mark_in copy) k (place w.at) result.ok (place result.at.at) }
+pub fn next(tab: &[u8], copy: [u8; Placement::COPIES], k: usize, w: &Standing) -> Option<Standing>
+    requires { Continuing tab.now copy k w.now.at }
+    ensures { Next (may_in tab.now) (mark_in copy) k (place w.now.at) result }
 {
     let lows = lowest(tab, k);
-    let mut i = k;
-    while 0 < i {
-        i -= 1;
-        let x = w.at[i];
-        let above = raised(lows, copy, k, i, x + 1);
-        let r = augment(tab, above, k, i, i, w);
-        if r.ok {
-            let v = r.at;
-            let u = settle(tab, above, k, i, v);
-            return Answer { ok: true, at: u };
+    for i in (0..k).rev() {
+        let above = Search {
+            tab,
+            lows: raised(lows, copy, k, i, w.at[i] + 1),
+            k,
+        };
+        if let Some(v) = above.augment(i, i, w) {
+            return Some(above.settle(i, v));
         }
     }
-    Answer { ok: false, at: w }
+    None
 }
 
 // The least placement of all.
-pub fn first(tab: &[u8], k: usize) -> Answer
+pub fn first(tab: &[u8], k: usize) -> Option<Standing>
     requires { Sized tab.now k }
-    ensures { IsFirst (may_in tab.now) k result.ok (place result.at.at) }
+    ensures { IsFirst (may_in tab.now) k result }
 {
     let lows = lowest(tab, k);
     let mut w = Standing {
         at: [0; Placement::COPIES],
     };
-    let mut m = 0;
-    while m < k {
-        let r = augment(tab, lows, m + 1, 0, m, w);
-        if !r.ok {
-            return r;
-        }
-        w = r.at;
-        m += 1;
+    for m in 0..k {
+        let some = Search {
+            tab,
+            lows,
+            k: m + 1,
+        };
+        w = some.augment(0, m, &w)?;
     }
-    let v = settle(tab, lows, k, 0, w);
-    Answer { ok: true, at: v }
+    let all = Search { tab, lows, k };
+    Some(all.settle(0, w))
 }

@@ -8,37 +8,28 @@ use borrow.Author.Tests.{not-true, not-false}
 use Rattle.exchange.proofs.first.Goals as goal
 
 pub loop-m-init : goal.loop-m-init
-loop-m-init c = (omega arith, full_none _ _)
+loop-m-init c = full_none _ _
 
-pub overflow_add-m : goal.overflow_add-m
-overflow_add-m c = omega (arith, c.requires.few)
-
-pub augment-r-requires : goal.augment-r-requires
-augment-r-requires c = one_more _ _ _ c.loop-m.m _ c.requires c.loop-m-test.true c.loop-m.invariant.1
-
-pub returns-then-not-r : goal.returns-then-not-r
-returns-then-not-r c =
-    let least = c.lowest-lows.ensures in
-    let m = c.loop-m.m in
-    let none : c.augment-r.result.ok ≡ false = not-true c.augment-r.result.ok c.if-not-r.true in
-    rw none (λ u f. no _ _ none c.augment-r.ensures u (full_less _ _ (m + 1) u (omega arith) (lowest_from _ _ _ u least f)) (λ s l. absurd (omega arith)))
-
-pub overflow_add-m-in-loop-m : goal.overflow_add-m-in-loop-m
-overflow_add-m-in-loop-m c = omega (arith, c.requires.few)
+pub augment-requires : goal.augment-requires
+augment-requires c = one_more _ _ _ c.loop-m.m _ c.requires (omega arith) c.loop-m.invariant
 
 pub loop-m-preserved : goal.loop-m-preserved
 loop-m-preserved c =
-    let a = c.augment-r in
-    (omega arith, (yes _ _ (not-false a.result.ok c.if-not-r.false) a.ensures).0)
+    c.in_ok-w.ensures.0
 
-pub settle-v-requires : goal.settle-v-requires
-settle-v-requires c =
+pub settle-requires : goal.settle-requires
+settle-requires c =
     let l = c.loop-m in
     let e : l.m ≡ c.args.k = omega arith in
-    (c.requires, omega arith, rw e at l.invariant.1)
+    (c.requires, omega arith, rw e at l.invariant)
 
 pub returns : goal.returns
 returns c =
     let least = c.lowest-lows.ensures in
-    let e = c.settle-v.ensures in
+    let e = c.settle.ensures in
     (from_full _ _ _ _ e.0, λ u f. e.2 u (lowest_from _ _ _ u least f) (λ s l. absurd (omega arith)))
+
+pub returns-in_err-w : goal.returns-in_err-w
+returns-in_err-w c =
+    let m = c.loop-m.m in
+    rw c.from_residual.ensures (λ u f. c.in_err-w.ensures u (full_less _ _ (m + 1) u (omega arith) (lowest_from _ _ _ u c.lowest-lows.ensures f)) (λ s l. absurd (omega arith)))

@@ -6,7 +6,4 @@ use Rattle.exchange.specs.Table.{may_from}
 use Rattle.exchange.proofs.first.Given as goal
 
 abbrev pub invariant-loop-m : goal.invariant-loop-m
-invariant-loop-m l = (l.m ≤ l.k) × Full (may_from l.tab l.lows.at) l.m (place l.w.at)
-
-abbrev pub decreases-loop-m : goal.decreases-loop-m
-decreases-loop-m l = l.k - l.m
+invariant-loop-m l = Full (may_from l.tab l.lows) l.m (place l.w.at)

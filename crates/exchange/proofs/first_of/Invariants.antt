@@ -8,6 +8,3 @@ use Rattle.exchange.proofs.first_of.Given as goal
 
 abbrev pub invariant-loop-x : goal.invariant-loop-x
 invariant-loop-x l = (y : ℕ) → y < l.x → may_in l.tab l.s y ≡ true → ⊥
-
-abbrev pub decreases-loop-x : goal.decreases-loop-x
-decreases-loop-x l = position_limit - l.x

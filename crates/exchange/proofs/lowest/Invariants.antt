@@ -7,7 +7,4 @@ use Rattle.exchange.specs.Table.{Lowest}
 use Rattle.exchange.proofs.lowest.Given as goal
 
 abbrev pub invariant-loop-s : goal.invariant-loop-s
-invariant-loop-s l = (l.s ≤ l.k) × (length l.lows.at ≡ copy_limit) × Lowest l.tab l.s l.lows.at
-
-abbrev pub decreases-loop-s : goal.decreases-loop-s
-decreases-loop-s l = l.k - l.s
+invariant-loop-s l = (length l.lows ≡ copy_limit) × Lowest l.tab l.s l.lows

@@ -9,39 +9,36 @@ use Rattle.exchange.proofs.Laws.{yes, no, full_small}
 use Rattle.exchange.proofs.Runs.{all_but, above_all, least_good, least_above, least_first}
 use Rattle.exchange.proofs.next.Goals as goal
 
-pub overflow_add-x : goal.overflow_add-x
-overflow_add-x c =
-    let small : place c.args.w.at (c.loop-i.i - 1) < position_limit = full_small _ _ (c.loop-i.i - 1) (place c.args.w.at) c.requires.good.full (omega arith) in
+pub overflow_add-w : goal.overflow_add-w
+overflow_add-w c =
+    let small : place c.args.w.now.at (c.loop-i.i - 1) < position_limit = full_small _ _ (c.loop-i.i - 1) (place c.args.w.now.at) c.requires.good.full (omega arith) in
     omega (arith, small)
 
-pub augment-r-requires : goal.augment-r-requires
-augment-r-requires c =
-    record { sized = c.requires.sized; low = omega arith; high = omega arith; but = all_but _ _ _ _ _ _ _ c.lowest-lows.ensures c.raised-above.ensures (place c.args.w.at) c.requires.good refl }
+pub augment-requires : goal.augment-requires
+augment-requires c =
+    record { sized = c.requires.sized; low = omega arith; high = omega arith; but = all_but _ _ _ _ _ _ _ c.lowest-lows.ensures c.raised.ensures (place c.args.w.now.at) c.requires.good refl }
 
 -- nothing comes after w that agrees with it below the floater after i
-pub returns-then-r : goal.returns-then-r
-returns-then-r c =
+pub returns-in-Some : goal.returns-in-Some
+returns-in-Some c =
     let i = c.loop-i.i - 1 in
-    let w = place c.args.w.at in
-    let e = yes _ _ c.if-r.true c.augment-r.ensures in
-    let s = settled_of _ _ _ w _ _ e.1 c.settle-u.ensures in
+    let w = place c.args.w.now.at in
+    let e = c.in-Some.ensures in
+    let s = settled_of _ _ _ w _ _ e.1 c.settle.ensures in
     let x = c.lowest-lows.ensures in
-    let y = c.raised-above.ensures in
+    let y = c.raised.ensures in
     let g = c.requires.good in
     let a = c.requires.alike in
     let more : i + 1 ≡ c.loop-i.i = omega arith in
-    let nothing : Nothing (may_in c.args.tab.now) (mark_in c.args.copy) c.args.k (i + 1) w = rw more c.loop-i.invariant.1 in
+    let nothing : Nothing (may_in c.args.tab.now) (mark_in c.args.copy) c.args.k (i + 1) w = rw more c.loop-i.invariant in
     next_found _ _ _ i w _ (omega arith) nothing
     (least_good _ _ _ _ _ _ _ x y w g refl a _ s) (least_above _ _ _ _ _ _ _ x y w g refl a _ s) (least_first _ _ _ _ _ _ _ x y w g refl a _ s)
 
 pub loop-i-preserved : goal.loop-i-preserved
 loop-i-preserved c =
     let i = c.loop-i.i - 1 in
-    let w = place c.args.w.at in
-    let h = no _ _ c.if-r.false c.augment-r.ensures in
+    let w = place c.args.w.now.at in
+    let h = c.in_default.ensures in
     let more : i + 1 ≡ c.loop-i.i = omega arith in
-    let nothing : Nothing (may_in c.args.tab.now) (mark_in c.args.copy) c.args.k (i + 1) w = rw more c.loop-i.invariant.1 in (
-      omega arith,
-      nothing_step _ _ _ i w nothing
-          (λ u g a. h u (above_all _ _ _ _ _ _ _ c.lowest-lows.ensures c.raised-above.ensures w c.requires.good refl u g a) a.0),
-    )
+    let nothing : Nothing (may_in c.args.tab.now) (mark_in c.args.copy) c.args.k (i + 1) w = rw more c.loop-i.invariant in
+    nothing_step _ _ _ i w nothing (λ u g a. h u (above_all _ _ _ _ _ _ _ c.lowest-lows.ensures c.raised.ensures w c.requires.good refl u g a) a.0)

@@ -7,7 +7,4 @@ use Rattle.exchange.proofs.Least.{Nothing}
 use Rattle.exchange.proofs.next.Given as goal
 
 abbrev pub invariant-loop-i : goal.invariant-loop-i
-invariant-loop-i l = (l.i ≤ l.k) × Nothing (may_in l.tab) (mark_in l.copy) l.k l.i (place l.w.at)
-
-abbrev pub decreases-loop-i : goal.decreases-loop-i
-decreases-loop-i l = l.i
+invariant-loop-i l = Nothing (may_in l.tab) (mark_in l.copy) l.k l.i (place l.w.at)

@@ -8,8 +8,5 @@ use Rattle.exchange.specs.Table.{mark_in, RaisedTo}
 use Rattle.exchange.proofs.raised.Given as goal
 
 abbrev pub invariant-loop-s : goal.invariant-loop-s
-invariant-loop-s l = (l.s ≤ l.k) × (length l.lows.at ≡ copy_limit)
-    × ((old : List ℕ) → RaisedTo (mark_in l.copy) l.k l.i l.low l.initial.s old l.initial.lows.at → RaisedTo (mark_in l.copy) l.k l.i l.low l.s old l.lows.at)
-
-abbrev pub decreases-loop-s : goal.decreases-loop-s
-decreases-loop-s l = l.k - l.s
+invariant-loop-s l = (length l.lows ≡ copy_limit)
+    × ((old : List ℕ) → RaisedTo (mark_in l.copy) l.k l.i l.low l.initial.s old l.initial.lows → RaisedTo (mark_in l.copy) l.k l.i l.low l.s old l.lows)

@@ -7,13 +7,13 @@ use lib.ListN.{length}
 use Rattle.scope.specs.Limits.{copy_limit}
 use Rattle.placement_laws.specs.Where.{Grown, Shifting}
 use Rattle.placement_laws.specs.Standing.{place}
-use Rattle.exchange.proofs.shift.Given as goal
+use Rattle.exchange.proofs.Tree.shift.Given as goal
 
 abbrev pub invariant-loop-a : goal.invariant-loop-a
-invariant-loop-a l = (length l.w.at ≡ copy_limit) × (l.a < l.tree.n)
-    × ((ok : ℕ → ℕ → Bool) (k f j : ℕ) → Grown ok k f j (place l.initial.w.at) l.tree.n (place l.tree.order) (place l.tree.parent)
-    → Shifting ok k f j (place l.initial.w.at) l.tree.n (place l.tree.order) l.h l.x0 (place l.initial.w.at)
-    → Shifting ok k f j (place l.initial.w.at) l.tree.n (place l.tree.order) l.a l.x (place l.w.at))
+invariant-loop-a l = (length l.w.at ≡ copy_limit) × (l.a < l.self.n)
+    × ((ok : ℕ → ℕ → Bool) (k f j : ℕ) → Grown ok k f j (place l.initial.w.at) l.self.n (place l.self.order) (place l.self.parent)
+    → Shifting ok k f j (place l.initial.w.at) l.self.n (place l.self.order) l.h l.x0 (place l.initial.w.at)
+    → Shifting ok k f j (place l.initial.w.at) l.self.n (place l.self.order) l.a l.x (place l.w.at))
 
 abbrev pub decreases-loop-a : goal.decreases-loop-a
 decreases-loop-a l = l.a

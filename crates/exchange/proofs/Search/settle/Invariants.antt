@@ -3,10 +3,7 @@ use Prim.Native.Nat.{◌≤◌, ◌-◌}
 use Rattle.exchange.proofs.Least.{Settling}
 use Rattle.placement_laws.specs.Standing.{place}
 use Rattle.exchange.specs.Table.{may_from}
-use Rattle.exchange.proofs.settle.Given as goal
+use Rattle.exchange.proofs.Search.settle.Given as goal
 
 abbrev pub invariant-loop-i : goal.invariant-loop-i
-invariant-loop-i l = (l.from ≤ l.i) × (l.i ≤ l.k) × Settling (may_from l.tab l.lows.at) l.k l.from l.i (place l.initial.w.at) (place l.w.at)
-
-abbrev pub decreases-loop-i : goal.decreases-loop-i
-decreases-loop-i l = l.k - l.i
+invariant-loop-i l = Settling (may_from l.self.tab.now l.self.lows) l.self.k l.from l.i (place l.initial.w.at) (place l.w.at)

@@ -9,8 +9,8 @@ use Rattle.placement_laws.specs.Standing.{place}
 use Rattle.exchange.specs.declared.Tree.{Tree}
 use Rattle.exchange.specs.Table.{may_from, Growing, Grew}
 use Rattle.exchange.proofs.Laws.{yes, no, grown_le, grown_less, grew_same, grew_push, stands_well, growing_on, grew_trans}
-use Rattle.exchange.proofs.grow.Goals as goal
-use Rattle.exchange.proofs.grow.Goals.{then-not-listed+then-may_from, then-not-listed+else-may_from, else-not-listed}
+use Rattle.exchange.proofs.Search.grow.Goals as goal
+use Rattle.exchange.proofs.Search.grow.Goals.{then-not-lists+then-may_from, else-not-lists, else-not-lists-via-then-not-lists+else-may_from, else-not-lists-via-else-not-lists}
 
 few : {tab lows : List ℕ} {k f h : ℕ} {w : List ℕ} {n : ℕ} {order parent : List ℕ} → Growing tab lows k f h w n order parent → n ≤ copy_limit
 few {tab} {lows} {k} {f} {h} {w} {n} {order} {parent} g =
@@ -28,22 +28,22 @@ offset_bounds-tree-h c = let g = c.requires in omega (arith, few g, g.inside)
 pub bounds-tree-h : goal.bounds-tree-h
 bounds-tree-h c = let g = c.requires in omega (arith, few g, g.inside)
 
-pub listed-requires : goal.listed-requires
-listed-requires c = few (growing_on _ _ _ _ _ _ _ _ _ _ _ _ _ _ c.requires c.loop-t.invariant.3)
+pub lists-requires : goal.lists-requires
+lists-requires c = few (growing_on _ _ _ _ _ _ _ _ _ _ _ _ _ _ c.requires c.loop-t.invariant.2)
 
 pub may_from-requires : goal.may_from-requires
 may_from-requires c =
     let g = c.requires in
-    let now = growing_on _ _ _ _ _ _ _ _ _ _ _ _ _ _ g c.loop-t.invariant.3 in
-    let new = no _ _ c.if-not-listed.true c.listed.ensures in
-    (g.sized.room, omega (arith, g.grown.high c.args.h g.inside, g.sized.few), stands_well _ _ _ _ _ _ now.but c.loop-t-test.true (λ e. new 0 now.grown.some (sym e)))
+    let now = growing_on _ _ _ _ _ _ _ _ _ _ _ _ _ _ g c.loop-t.invariant.2 in
+    let new = no _ _ c.if-not-lists.true c.lists.ensures in
+    (g.sized.room, omega (arith, g.grown.high c.args.h g.inside, g.sized.few), stands_well _ _ _ _ _ _ now.but (omega arith) (λ e. new 0 now.grown.some (sym e)))
 
-pub push-g-requires : goal.push-g-requires
-push-g-requires c =
+pub push-requires : goal.push-requires
+push-requires c =
     let g = c.requires in
-    let now = growing_on _ _ _ _ _ _ _ _ _ _ _ _ _ _ g c.loop-t.invariant.3 in
-    room _ _ _ _ _ _ _ _ _ _ now c.loop-t.invariant.0 c.loop-t-test.true (no _ _ c.if-not-listed.true c.listed.ensures)
-    (rw (sym (c.loop-t.invariant.3.same c.args.h g.inside)) (sym c.may_from.ensures ∙ c.if-may_from.true))
+    let now = growing_on _ _ _ _ _ _ _ _ _ _ _ _ _ _ g c.loop-t.invariant.2 in
+    room _ _ _ _ _ _ _ _ _ _ now (omega arith) (omega arith) (no _ _ c.if-not-lists.true c.lists.ensures)
+    (rw (sym (c.loop-t.invariant.2.same c.args.h g.inside)) (sym c.may_from.ensures ∙ c.if-may_from.true))
 
 -- the tree after a turn
 abbrev Turned : (tab lows : List ℕ) (k f h : ℕ) (w : List ℕ) (t n : ℕ) (order : List ℕ) → Tree → Type 0
@@ -64,21 +64,22 @@ pub loop-t-preserved : goal.loop-t-preserved
 loop-t-preserved c =
     let l = c.loop-t in
     let g = c.requires in
-    let now = growing_on _ _ _ _ _ _ _ _ _ _ _ _ _ _ g l.invariant.3 in
-    let same = l.invariant.3.same c.args.h g.inside in
-    let z : Turned c.args.tab.now c.args.lows.at c.args.k c.args.f c.args.h c.args.w.at l.t l.g.n l.g.order c.if-not-listed.g =
-    elim c.if-not-listed.branch [
-      | then-not-listed+then-may_from w ↦
-          rw w.g-is (more_tree _ _ _ _ _ _ l.t l.g _ l.invariant.1 l.invariant.2 now l.invariant.0 c.loop-t-test.true (no _ _ w.if-not-listed.true c.listed.ensures)
-          (rw (sym same) (sym w.may_from.ensures ∙ w.if-may_from.true)) w.push-g.ensures)
-      | then-not-listed+else-may_from w ↦
-          rw w.g-is (
-            l.invariant.1,
-            l.invariant.2,
-            grew_same _ _ _ _ _ _ l.t _ _ _ now
-                (λ o. absurd (true≢false (sym (rw (sym same) at o) ∙ sym w.may_from.ensures ∙ w.if-may_from.false))),
+    let v = l.invariant in
+    let now = growing_on _ _ _ _ _ _ _ _ _ _ _ _ _ _ g v.2 in
+    let same = v.2.same c.args.h g.inside in
+    let z : Turned c.args.self.now.tab.now c.args.self.now.lows c.args.self.now.k c.args.f c.args.h c.args.w.now.at l.t l.tree.n l.tree.order c.if-not-lists.tree =
+    elim c.if-not-lists.branch [
+      | then-not-lists+then-may_from w ↦
+          rw w.tree-is (more_tree _ _ _ _ _ _ l.t l.tree _ v.0 v.1 now (omega arith) (omega arith) (no _ _ w.if-not-lists.true c.lists.ensures)
+          (rw (sym same) (sym w.may_from.ensures ∙ w.if-may_from.true)) w.push.ensures)
+      | else-not-lists w ↦
+          rw w.tree-is (
+            v.0,
+            v.1,
+            grew_same _ _ _ _ _ _ l.t _ _ _ now (elim w.else-not-lists.branch [
+              | else-not-lists-via-then-not-lists+else-may_from u ↦ λ o. absurd (true≢false (sym (rw (sym same) at o) ∙ sym u.may_from.ensures ∙ u.if-may_from.false))
+              | else-not-lists-via-else-not-lists u ↦ λ o. yes _ _ u.if-not-lists.false c.lists.ensures
+            ]),
           )
-      | else-not-listed w ↦
-          rw w.g-is (l.invariant.1, l.invariant.2, grew_same _ _ _ _ _ _ l.t _ _ _ now (λ o. yes _ _ w.if-not-listed.false c.listed.ensures))
     ] in
-    (omega (arith, l.invariant.0), z.0, z.1, grew_trans _ _ _ _ _ _ _ _ _ _ _ _ _ _ _ _ g l.invariant.3 z.2)
+    (z.0, z.1, grew_trans _ _ _ _ _ _ _ _ _ _ _ _ _ _ _ _ g v.2 z.2)

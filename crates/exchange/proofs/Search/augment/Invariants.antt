@@ -2,10 +2,10 @@
 -- taken by one in the tree. So a spare position is passed up to j, and a tree whose floaters are all passed shows that no placement agrees below f.
 use Prim.Native.Nat.{◌-◌}
 use Rattle.exchange.proofs.Laws.{Searching}
-use Rattle.exchange.proofs.augment.Given as goal
+use Rattle.exchange.proofs.Search.augment.Given as goal
 
 abbrev pub invariant-loop-h : goal.invariant-loop-h
-invariant-loop-h l = Searching l.tab l.lows.at l.k l.f l.j l.w.at l.tree.n l.tree.order l.tree.parent l.h
+invariant-loop-h l = Searching l.self.tab.now l.self.lows l.self.k l.f l.j l.w.at l.tree.n l.tree.order l.tree.parent l.h
 
 abbrev pub decreases-loop-h : goal.decreases-loop-h
-decreases-loop-h l = l.k - l.h
+decreases-loop-h l = l.self.k - l.h

@@ -5,12 +5,9 @@ use Prim.Native.Nat.{◌≤◌, ◌-◌}
 use lib.ListN.{length}
 use Rattle.scope.specs.Limits.{copy_limit}
 use Rattle.exchange.specs.Table.{Grew}
-use Rattle.exchange.proofs.grow.Given as goal
+use Rattle.exchange.proofs.Search.grow.Given as goal
 
 abbrev pub invariant-loop-t : goal.invariant-loop-t
 invariant-loop-t l =
-    (l.f ≤ l.t) × (length l.g.order ≡ copy_limit) × (length l.g.parent ≡ copy_limit)
-    × Grew l.tab l.lows.at l.k l.f l.h l.w.at l.f l.t l.initial.g.n l.initial.g.order l.g.n l.g.order l.g.parent
-
-abbrev pub decreases-loop-t : goal.decreases-loop-t
-decreases-loop-t l = l.k - l.t
+    (length l.tree.order ≡ copy_limit) × (length l.tree.parent ≡ copy_limit)
+    × Grew l.self.tab.now l.self.lows l.self.k l.f l.h l.w.at l.f l.t l.initial.tree.n l.initial.tree.order l.tree.n l.tree.order l.tree.parent

@@ -10,7 +10,7 @@ use Rattle.std.specs.Prelude.{Option, None, Some, is_none}
 use lib.Dec.{eqb, leb, ltb}
 use lib.ListN.{length, get_or, set}
 use lib.Seq.{get_or-set_same, get_or-set_other}
-use borrow.Author.Tests.{ltb-true, lt-ltb, leb-true, le-leb, lt-leb, eqb-true, eqb-false, eq-eqb, ne_eqb}
+use borrow.Author.Tests.{ltb-true, lt-ltb, leb-true, le-leb, lt-leb, eq-eqb, ne_eqb}
 use Rattle.scope.specs.Limits.{copy_limit, position_limit}
 use Rattle.placement_laws.specs.Standing.{place, Full, Same}
 use Rattle.placement_laws.specs.Where.{But, FreeBut, Grown}

@@ -1,27 +1,12 @@
-use mathlib.Core.Path.{◌≡◌}
-use mathlib.Core.Bool.{false}
 use Prim.Native.Nat.{◌+◌}
 use native.Mathlib.Omega.{arith}
-use Rattle.exchange.proofs.Laws.{yes, no, full_none, full_less, one_more}
+use Rattle.exchange.proofs.Laws.{full_less}
 use Rattle.exchange.proofs.Runs.{from_full, lowest_from}
-use borrow.Author.Tests.{not-true, not-false}
 use Rattle.exchange.proofs.first.Goals as goal
-
-pub loop-m-init : goal.loop-m-init
-loop-m-init c = full_none _ _
-
-pub augment-requires : goal.augment-requires
-augment-requires c = one_more _ _ _ c.loop-m.m _ c.requires (omega arith) c.loop-m.invariant
 
 pub loop-m-preserved : goal.loop-m-preserved
 loop-m-preserved c =
     c.in_ok-w.ensures.0
-
-pub settle-requires : goal.settle-requires
-settle-requires c =
-    let l = c.loop-m in
-    let e : l.m ≡ c.args.k = omega arith in
-    (c.requires, omega arith, rw e at l.invariant)
 
 pub returns : goal.returns
 returns c =

@@ -1,6 +1,5 @@
 -- `exchange::first` meets its contract. The loop's invariant: the first m floaters all stand. One that cannot be placed beside those before it leaves no
 -- placement at all; once all stand, `settle` from the first floater on gives the least.
-use Prim.Native.Nat.{◌≤◌, ◌-◌}
 use Rattle.placement_laws.specs.Standing.{place, Full}
 use Rattle.exchange.specs.Table.{may_from}
 use Rattle.exchange.proofs.first.Given as goal

@@ -1,8 +1,7 @@
 -- `exchange::first_of` meets its contract. The loop's invariant: s may stand at no position below x.
 use mathlib.Core.Path.{◌≡◌}
 use mathlib.Core.Bool.{true}
-use Prim.Native.Nat.{ℕ, ◌<◌, ◌-◌}
-use Rattle.scope.specs.Limits.{position_limit}
+use Prim.Native.Nat.{ℕ, ◌<◌}
 use Rattle.exchange.specs.Table.{may_in}
 use Rattle.exchange.proofs.first_of.Given as goal
 

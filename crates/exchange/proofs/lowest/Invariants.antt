@@ -1,6 +1,5 @@
 -- `exchange::lowest` meets its contract. The loop's invariant: no floater below s may stand below its least position.
 use mathlib.Core.Path.{◌≡◌}
-use Prim.Native.Nat.{◌≤◌, ◌-◌}
 use lib.ListN.{length}
 use Rattle.scope.specs.Limits.{copy_limit}
 use Rattle.exchange.specs.Table.{Lowest}

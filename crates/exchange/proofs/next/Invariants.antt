@@ -1,6 +1,5 @@
 -- `exchange::next` meets its contract. The loop's invariant: nothing comes after w that agrees with it below i. The first floater from the last one back that can stand
 -- higher, with the further copies of its bracket behind it above where it stands now, is found by one exchange; the least placement of that kind is the one after w.
-use Prim.Native.Nat.{◌≤◌}
 use Rattle.placement_laws.specs.Standing.{place}
 use Rattle.exchange.specs.Table.{may_in, mark_in}
 use Rattle.exchange.proofs.Least.{Nothing}

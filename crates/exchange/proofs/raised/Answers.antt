@@ -8,14 +8,6 @@ use Rattle.exchange.specs.Table.{mark_in, RaisedTo}
 use Rattle.exchange.proofs.Runs.{raised_start, raised_more}
 use Rattle.exchange.proofs.raised.Goals as goal
 
-pub loop-s-init : goal.loop-s-init
-loop-s-init c =
-    let long : length c.args.old ≡ copy_limit = search rules in
-    (simp length-set long, λ old r. r)
-
-pub is_further-requires : goal.is_further-requires
-is_further-requires c = omega (arith, c.requires.1)
-
 pub returns-then-not-is_further : goal.returns-then-not-is_further
 returns-then-not-is_further c =
     let below : c.args.i < copy_limit = omega (arith, c.requires.0, c.requires.1) in

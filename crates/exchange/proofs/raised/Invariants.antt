@@ -1,7 +1,7 @@
 -- `exchange::raised` meets its contract. The loop's invariant: what was raised up to s₀ is raised up to s, and all in between are further copies.
 use mathlib.Core.Path.{◌≡◌}
 use mathlib.Core.List.{List}
-use Prim.Native.Nat.{ℕ, ◌≤◌, ◌-◌}
+use Prim.Native.Nat.{ℕ}
 use lib.ListN.{length}
 use Rattle.scope.specs.Limits.{copy_limit}
 use Rattle.exchange.specs.Table.{mark_in, RaisedTo}

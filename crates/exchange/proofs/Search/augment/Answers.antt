@@ -1,14 +1,21 @@
-use mathlib.Core.Path.{refl}
-use Prim.Native.Nat.{◌≤◌, ◌<◌}
+use Prim.Native.Nat.{◌≤◌}
 use native.Mathlib.Omega.{arith}
 use Rattle.scope.specs.Limits.{copy_limit}
-use Rattle.placement_laws.specs.Standing.{place}
-use Rattle.exchange.specs.Table.{Growing, Walkable}
-use Rattle.exchange.proofs.Laws.{searching_start, searching_few, searching_high, searching_walk, searching_found, searching_growing, searching_step, searching_end}
+use Rattle.exchange.specs.Table.{Walkable}
+use Rattle.exchange.proofs.Laws.{searching_few, searching_walk, searching_found, searching_step, searching_end}
 use Rattle.exchange.proofs.Search.augment.Goals as goal
 
-pub loop-h-init : goal.loop-h-init
-loop-h-init c = searching_start _ _ _ _ _ _ c.requires _ _ refl
+pub returns-in-Some : goal.returns-in-Some
+returns-in-Some c =
+    let e = c.in-Some.ensures in
+    searching_found _ _ _ _ _ _ c.requires _ _ _ _ c.loop-h.invariant _ c.shift.result.at c.loop-h-test.true e.0 e.1 c.shift.ensures
+
+pub loop-h-preserved : goal.loop-h-preserved
+loop-h-preserved c =
+    searching_step _ _ _ _ _ _ c.requires _ _ _ _ c.loop-h.invariant _ _ _ c.loop-h-test.true c.in_default.ensures c.grow.ensures
+
+pub returns : goal.returns
+returns c = searching_end _ _ _ _ _ _ c.requires _ _ _ _ c.loop-h.invariant c.loop-h-test.false
 
 pub offset_bounds-tree-h : goal.offset_bounds-tree-h
 offset_bounds-tree-h c =
@@ -20,25 +27,10 @@ bounds-tree-h c =
     let below : c.loop-h.tree.n ≤ c.args.self.now.k = searching_few _ _ _ _ _ _ c.requires _ _ _ _ c.loop-h.invariant in
     omega (arith, c.requires.sized.few, below)
 
-pub spare-requires : goal.spare-requires
-spare-requires c =
-    let high : place c.loop-h.tree.order c.loop-h.h < copy_limit = searching_high _ _ _ _ _ _ c.requires _ _ _ _ c.loop-h.invariant c.loop-h-test.true in
-    (c.requires.sized, high)
-
 pub shift-requires : goal.shift-requires
 shift-requires c =
     let walk : Walkable c.loop-h.tree.n c.loop-h.h c.loop-h.tree.order c.loop-h.tree.parent = searching_walk _ _ _ _ _ _ c.requires _ _ _ _ c.loop-h.invariant c.loop-h-test.true in
     walk
-
-pub returns-in-Some : goal.returns-in-Some
-returns-in-Some c =
-    let e = c.in-Some.ensures in
-    searching_found _ _ _ _ _ _ c.requires _ _ _ _ c.loop-h.invariant _ c.shift.result.at c.loop-h-test.true e.0 e.1 c.shift.ensures
-
-pub grow-requires : goal.grow-requires
-grow-requires c =
-    let growing : Growing c.args.self.now.tab.now c.args.self.now.lows c.args.self.now.k c.args.f c.loop-h.h c.args.w.now.at c.loop-h.tree.n c.loop-h.tree.order c.loop-h.tree.parent = searching_growing _ _ _ _ _ _ c.requires _ _ _ _ c.loop-h.invariant c.loop-h-test.true in
-    growing
 
 pub overflow_add-h : goal.overflow_add-h
 overflow_add-h c =
@@ -50,10 +42,3 @@ pub loop-h-smaller : goal.loop-h-smaller
 loop-h-smaller c =
     let below : c.loop-h.tree.n ≤ c.args.self.now.k = searching_few _ _ _ _ _ _ c.requires _ _ _ _ c.loop-h.invariant in
     omega (arith, below, c.loop-h-test.true)
-
-pub loop-h-preserved : goal.loop-h-preserved
-loop-h-preserved c =
-    searching_step _ _ _ _ _ _ c.requires _ _ _ _ c.loop-h.invariant _ _ _ c.loop-h-test.true c.in_default.ensures c.grow.ensures
-
-pub returns : goal.returns
-returns c = searching_end _ _ _ _ _ _ c.requires _ _ _ _ c.loop-h.invariant c.loop-h-test.false

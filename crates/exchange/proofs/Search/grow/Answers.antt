@@ -22,29 +22,6 @@ room : (tab lows : List ℕ) (k f h : ℕ) (w : List ℕ) (n : ℕ) (order paren
 room tab lows k f h w n order parent t g ft tk new o =
     omega (arith, g.sized.few, grown_less (may_from tab lows) k f (place order 0) (place w) n (place order) (place parent) h t g.grown ft tk g.inside new o)
 
-pub offset_bounds-tree-h : goal.offset_bounds-tree-h
-offset_bounds-tree-h c = let g = c.requires in omega (arith, few g, g.inside)
-
-pub bounds-tree-h : goal.bounds-tree-h
-bounds-tree-h c = let g = c.requires in omega (arith, few g, g.inside)
-
-pub lists-requires : goal.lists-requires
-lists-requires c = few (growing_on _ _ _ _ _ _ _ _ _ _ _ _ _ _ c.requires c.loop-t.invariant.2)
-
-pub may_from-requires : goal.may_from-requires
-may_from-requires c =
-    let g = c.requires in
-    let now = growing_on _ _ _ _ _ _ _ _ _ _ _ _ _ _ g c.loop-t.invariant.2 in
-    let new = no _ _ c.if-not-lists.true c.lists.ensures in
-    (g.sized.room, omega (arith, g.grown.high c.args.h g.inside, g.sized.few), stands_well _ _ _ _ _ _ now.but (omega arith) (λ e. new 0 now.grown.some (sym e)))
-
-pub push-requires : goal.push-requires
-push-requires c =
-    let g = c.requires in
-    let now = growing_on _ _ _ _ _ _ _ _ _ _ _ _ _ _ g c.loop-t.invariant.2 in
-    room _ _ _ _ _ _ _ _ _ _ now (omega arith) (omega arith) (no _ _ c.if-not-lists.true c.lists.ensures)
-    (rw (sym (c.loop-t.invariant.2.same c.args.h g.inside)) (sym c.may_from.ensures ∙ c.if-may_from.true))
-
 -- the tree after a turn
 abbrev Turned : (tab lows : List ℕ) (k f h : ℕ) (w : List ℕ) (t n : ℕ) (order : List ℕ) → Tree → Type 0
 Turned tab lows k f h w t n order r = (length r.order ≡ copy_limit) × (length r.parent ≡ copy_limit) × Grew tab lows k f h w t (t + 1) n order r.n r.order r.parent
@@ -83,3 +60,26 @@ loop-t-preserved c =
           )
     ] in
     (z.0, z.1, grew_trans _ _ _ _ _ _ _ _ _ _ _ _ _ _ _ _ g v.2 z.2)
+
+pub offset_bounds-tree-h : goal.offset_bounds-tree-h
+offset_bounds-tree-h c = let g = c.requires in omega (arith, few g, g.inside)
+
+pub bounds-tree-h : goal.bounds-tree-h
+bounds-tree-h c = let g = c.requires in omega (arith, few g, g.inside)
+
+pub lists-requires : goal.lists-requires
+lists-requires c = few (growing_on _ _ _ _ _ _ _ _ _ _ _ _ _ _ c.requires c.loop-t.invariant.2)
+
+pub may_from-requires : goal.may_from-requires
+may_from-requires c =
+    let g = c.requires in
+    let now = growing_on _ _ _ _ _ _ _ _ _ _ _ _ _ _ g c.loop-t.invariant.2 in
+    let new = no _ _ c.if-not-lists.true c.lists.ensures in
+    (g.sized.room, omega (arith, g.grown.high c.args.h g.inside, g.sized.few), stands_well _ _ _ _ _ _ now.but (omega arith) (λ e. new 0 now.grown.some (sym e)))
+
+pub push-requires : goal.push-requires
+push-requires c =
+    let g = c.requires in
+    let now = growing_on _ _ _ _ _ _ _ _ _ _ _ _ _ _ g c.loop-t.invariant.2 in
+    room _ _ _ _ _ _ _ _ _ _ now (omega arith) (omega arith) (no _ _ c.if-not-lists.true c.lists.ensures)
+    (rw (sym (c.loop-t.invariant.2.same c.args.h g.inside)) (sym c.may_from.ensures ∙ c.if-may_from.true))

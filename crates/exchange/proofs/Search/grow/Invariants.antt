@@ -1,7 +1,6 @@
 -- `exchange::grow` meets its contract. The loop's invariant: the tree has grown by every floater below t that stands where the h-th may. A turn finds t listed already;
 -- or it is new and stands where the h-th may, so it is listed behind the others, of which there are then fewer than floaters; or it stands elsewhere.
 use mathlib.Core.Path.{◌≡◌}
-use Prim.Native.Nat.{◌≤◌, ◌-◌}
 use lib.ListN.{length}
 use Rattle.scope.specs.Limits.{copy_limit}
 use Rattle.exchange.specs.Table.{Grew}

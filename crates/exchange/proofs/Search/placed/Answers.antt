@@ -4,7 +4,7 @@ use mathlib.Core.Path.{◌≡◌}
 use Prim.Native.Nat.{◌<◌}
 use native.Mathlib.Omega.{arith}
 use lib.ListN.{length}
-use Rattle.exchange.proofs.Laws.{attempt_used, attempt_free, attempt_over, attempt_augmented}
+use Rattle.exchange.proofs.Laws.{attempt_used, attempt_free, attempt_augmented}
 use borrow.Author.Rules.{rules}
 use Rattle.scope.specs.Limits.{copy_limit}
 use Rattle.exchange.proofs.Search.placed.Goals as goal
@@ -16,11 +16,6 @@ returns-in-None c =
 
 pub returns-then-t-i : goal.returns-then-t-i
 returns-then-t-i c = attempt_used _ _ _ _ _ _ c.requires.0 c.requires.1 _ c.in-Some.ensures c.if-t-i.true
-
-pub augment-requires : goal.augment-requires
-augment-requires c =
-    let long : c.args.i < length c.args.p.now.at = let e : length c.args.p.now.at ≡ copy_limit = search rules in omega (arith, c.requires.0.inside, c.requires.0.sized.few, e) in
-    attempt_over _ _ _ _ _ _ c.requires.0 c.requires.1 long _ c.in-Some.ensures c.if-t-i.false
 
 pub returns-else-t-i : goal.returns-else-t-i
 returns-else-t-i c =

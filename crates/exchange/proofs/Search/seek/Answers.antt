@@ -2,20 +2,9 @@ use mathlib.Core.Path.{sym, ◌∙◌}
 use native.Mathlib.Omega.{arith}
 use Rattle.placement_laws.specs.Standing.{place}
 use Rattle.exchange.proofs.Least.{passed_more, lowered_yes}
-use Rattle.exchange.proofs.Laws.{from_parts, parts_from, from_high, attempt_not, yes, no}
+use Rattle.exchange.proofs.Laws.{from_parts, parts_from, from_high, attempt_not}
 use Rattle.exchange.proofs.Search.seek.Goals as goal
 use Rattle.exchange.proofs.Search.seek.Goals.{then-may+in_default, else-may}
-
-pub loop-y-init : goal.loop-y-init
-loop-y-init c = λ u f s m. let z = from_parts _ _ _ _ (f.fits c.args.i c.requires.0.inside) in omega (arith, z.0, m)
-
-pub may-requires : goal.may-requires
-may-requires c =
-    let p = c.requires in
-    (p.0.sized.room, omega (arith, p.0.inside, p.0.sized.few), omega (arith, p.1))
-
-pub placed-requires : goal.placed-requires
-placed-requires c = (c.requires.0, parts_from _ _ _ _ (omega arith) (sym c.may.ensures ∙ c.if-may.true))
 
 pub returns-in-Some : goal.returns-in-Some
 returns-in-Some c =
@@ -31,3 +20,9 @@ loop-y-preserved c =
 
 pub returns : goal.returns
 returns c = λ u f s m. c.loop-y.invariant u f s (omega arith)
+
+pub loop-y-init : goal.loop-y-init
+loop-y-init c = λ u f s m. let z = from_parts _ _ _ _ (f.fits c.args.i c.requires.0.inside) in omega (arith, z.0, m)
+
+pub placed-requires : goal.placed-requires
+placed-requires c = (c.requires.0, parts_from _ _ _ _ (omega arith) (sym c.may.ensures ∙ c.if-may.true))

@@ -1,5 +1,4 @@
 -- `exchange::seek` meets its contract. The loop's invariant: no placement has i below y, those below i unmoved.
-use Prim.Native.Nat.{◌≤◌, ◌-◌}
 use Rattle.placement_laws.specs.Standing.{place}
 use Rattle.exchange.proofs.Least.{Passed}
 use Rattle.exchange.specs.Table.{may_from}

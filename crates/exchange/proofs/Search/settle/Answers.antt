@@ -1,14 +1,8 @@
 use mathlib.Core.Path.{◌≡◌}
 use native.Mathlib.Omega.{arith}
-use Rattle.exchange.proofs.Least.{settle_start, settle_step, settle_end}
+use Rattle.exchange.proofs.Least.{settle_step, settle_end}
 use Rattle.placement_laws.specs.Standing.{place}
 use Rattle.exchange.proofs.Search.settle.Goals as goal
-
-pub loop-i-init : goal.loop-i-init
-loop-i-init c = let p = c.requires in settle_start _ _ _ (place c.args.p.at) p.2
-
-pub lowered-w-requires : goal.lowered-w-requires
-lowered-w-requires c = record { sized = c.requires.0; full = c.loop-i.invariant.full; inside = omega arith }
 
 pub loop-i-preserved : goal.loop-i-preserved
 loop-i-preserved c =

@@ -1,5 +1,4 @@
 -- `exchange::settle` meets its contract. The loop's invariant: w agrees with where the search began below `from`, and is the least up to i.
-use Prim.Native.Nat.{◌≤◌, ◌-◌}
 use Rattle.exchange.proofs.Least.{Settling}
 use Rattle.placement_laws.specs.Standing.{place}
 use Rattle.exchange.specs.Table.{may_from}

@@ -1,5 +1,5 @@
 use native.Mathlib.Omega.{arith}
-use Rattle.exchange.proofs.Laws.{from_parts, parts_from, from_small, yes, no}
+use Rattle.exchange.proofs.Laws.{from_parts, parts_from, from_small, yes}
 use Rattle.exchange.proofs.Search.spare.Goals as goal
 
 pub returns-then-open_at : goal.returns-then-open_at

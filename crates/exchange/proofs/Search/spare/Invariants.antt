@@ -1,8 +1,7 @@
 -- `exchange::spare` meets its contract. The loop's invariant: on each position from the least of s on and below x where s may stand somebody other than `but` does.
 use mathlib.Core.Path.{◌≡◌}
 use mathlib.Core.Bool.{true}
-use Prim.Native.Nat.{ℕ, ◌≤◌, ◌<◌, ◌-◌}
-use Rattle.scope.specs.Limits.{position_limit}
+use Prim.Native.Nat.{ℕ, ◌≤◌, ◌<◌}
 use Rattle.placement_laws.specs.Standing.{place}
 use Rattle.exchange.specs.Table.{may_in}
 use Rattle.exchange.proofs.Search.spare.Given as goal

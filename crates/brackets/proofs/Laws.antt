@@ -15,9 +15,11 @@ use Rattle.scope.specs.Content.{is_reference}
 use Rattle.scope.specs.Lists.{none?, all, flat, tabled}
 use Rattle.scope.specs.Modifications.{is_key, only_info, is_referring, name_of, is_labelled, is_modification, unlabelled_copies, copies}
 use Rattle.scope.specs.Keys.{key_code}
-use Rattle.scope.specs.Kinds.{on_one_position}
-use Rattle.scope.specs.Positions.{is_placed}
 use Rattle.scope.specs.Layout.{mass_code, text_code, composition_code, value_in, part_in, bracket_in, key_field, label_field, parts_field, value_field}
+use denote.Enum.Bare.{sameb}
+use Rattle.brackets.specs.contracts.Content.{the_type}
+use Rattle.brackets.specs.declared.Content.TheVariants.{Mass, Text, Reference, Composition}
+use Rattle.brackets.specs.Content.{content_in}
 use Rattle.brackets.specs.Codes.{key_is}
 use Rattle.basics.specs.Tabled.{tabled_at, tabled_end, tabled_all}
 
@@ -134,17 +136,14 @@ by_value n x false false false = refl
 abbrev refers : ℕ → Bool
 refers v = cond (eqb v mass_code) false (cond (eqb v text_code) false (cond (eqb v composition_code) false true))
 
-pub of_mass : (v : ℕ) → v ≡ mass_code → false ≡ refers v
-of_mass v e = rw (eq-eqb v mass_code e)
+refers_by : (t u w : Bool) → sameb the_type (cond t Mass (cond u Text (cond w Composition Reference))) Reference ≡ cond t false (cond u false (cond w false true))
+refers_by true u w = refl
+refers_by false true w = refl
+refers_by false false true = refl
+refers_by false false false = refl
 
-pub of_text : (v : ℕ) → (v ≡ mass_code → ⊥) → v ≡ text_code → false ≡ refers v
-of_text v p e = rw (ne_eqb v mass_code p, eq-eqb v text_code e)
-
-pub of_composition : (v : ℕ) → (v ≡ mass_code → ⊥) → (v ≡ text_code → ⊥) → v ≡ composition_code → false ≡ refers v
-of_composition v p q e = rw (ne_eqb v mass_code p, ne_eqb v text_code q, eq-eqb v composition_code e)
-
-pub of_none : (v : ℕ) → (v ≡ mass_code → ⊥) → (v ≡ text_code → ⊥) → (v ≡ composition_code → ⊥) → true ≡ refers v
-of_none v p q r = rw (ne_eqb v mass_code p, ne_eqb v text_code q, ne_eqb v composition_code r)
+pub refers_content : (v : ℕ) → sameb the_type (content_in v) Reference ≡ refers v
+refers_content v = refers_by (eqb v mass_code) (eqb v text_code) (eqb v composition_code)
 
 pub reference_is : (bs : List ℕ) (k m v : ℕ) → m ≡ parts_field bs k → (m ≡ 0 → ⊥) → v ≡ value_field bs k 0 → (ns : List ℤ) → refers v ≡ is_referring (bracket_in bs ns k)
 reference_is bs k m v e q f ns =
@@ -152,43 +151,6 @@ reference_is bs k m v e q f ns =
 
 -- ---- the tests of a modification, one after the other
 module _ (b : Bracket (Unit {0})) where
-  pub mod_info : {o : Bool} → o ≡ only_info b → o ≡ true → false ≡ is_modification b
-  mod_info e t = sym (ap (λ x. not x && not (is_referring b)) (sym e ∙ t))
-
-  pub mod_by_reference : {o r : Bool} → o ≡ only_info b → o ≡ false → r ≡ is_referring b → not r ≡ is_modification b
-  mod_by_reference e t f = sym (ap (λ x. not x && not (is_referring b)) (sym e ∙ t) ∙ ap not (sym f))
-
-  pub placed_no : {m : Bool} → m ≡ is_modification b → m ≡ false → false ≡ is_placed b
-  unfolding is_placed
-  placed_no e t = sym (ap (λ x. x && not (is_labelled b) && on_one_position b.kind) (sym e ∙ t))
-
-  pub placed_labelled : {m l : Bool} → m ≡ is_modification b → m ≡ true → l ≡ is_labelled b → l ≡ true → false ≡ is_placed b
-  unfolding is_placed
-  placed_labelled e t f u =
-      sym
-      (ap (λ x. x && not (is_labelled b) && on_one_position b.kind) (sym e ∙ t)
-      ∙ ap (λ x. not x && on_one_position b.kind) (sym f ∙ u))
-
-  pub placed_by_kind : {m l r : Bool} {k : Kind} → m ≡ is_modification b → m ≡ true → l ≡ is_labelled b → l ≡ false → k ≡ b.kind → r ≡ on_one_position k → r ≡ is_placed b
-  unfolding is_placed
-  placed_by_kind e t f u g h =
-      sym
-      (ap (λ x. x && not (is_labelled b) && on_one_position b.kind) (sym e ∙ t)
-      ∙ ap (λ x. not x && on_one_position b.kind) (sym f ∙ u)
-      ∙ ap on_one_position (sym g)
-      ∙ sym h)
-
-  pub copies_no : {m : Bool} → m ≡ is_modification b → m ≡ false → 0 ≡ copies b
-  unfolding copies
-  copies_no e t = sym (ap (λ x. cond x (cond (is_labelled b) 1 (unlabelled_copies b.kind b.count)) 0) (sym e ∙ t))
-
-  pub copies_labelled : {m l : Bool} → m ≡ is_modification b → m ≡ true → l ≡ is_labelled b → l ≡ true → 1 ≡ copies b
-  unfolding copies
-  copies_labelled e t f u =
-      sym
-      (ap (λ x. cond x (cond (is_labelled b) 1 (unlabelled_copies b.kind b.count)) 0) (sym e ∙ t)
-      ∙ ap (λ x. cond x 1 (unlabelled_copies b.kind b.count)) (sym f ∙ u))
-
   pub copies_by_kind : {m l : Bool} {k : Kind} {n r : ℕ} → m ≡ is_modification b → m ≡ true → l ≡ is_labelled b → l ≡ false → k ≡ b.kind → n ≡ b.count → r ≡ unlabelled_copies k n → r ≡ copies b
   unfolding copies
   copies_by_kind {m} {l} {k} {n} e t f u g h i =

@@ -2,3 +2,4 @@ pub mod Row
 pub mod Fields
 pub mod Codes
 pub mod Reached
+pub mod Content

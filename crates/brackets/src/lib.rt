@@ -5,40 +5,25 @@ ghost use Rattle.std.specs.Prelude.{◌≡◌, ◌&&◌, List, map, ◌<◌, ◌
 ghost use Rattle.scope.specs.Bytes.{byte_limit};
 ghost use Rattle.scope.specs.Limits.{residue_limit, part_limit, position_limit};
 ghost use Rattle.scope.specs.Lists.{member};
-ghost use Rattle.scope.specs.Layout.{bracket_in, tables_in, parts_field, residues_field};
+ghost use Rattle.scope.specs.Layout.{bracket_in, tables_in, parts_field, residues_field, value_field};
 ghost use Rattle.scope.specs.Kinds.{kind_in, is_declared, on_one_position};
 ghost use Rattle.scope.specs.Modifications.{only_info, is_referring, is_modification, is_labelled, unlabelled_copies, copies};
 ghost use Rattle.scope.specs.Positions.{sites, names, reached, is_placed};
 ghost use Rattle.brackets.specs.Row.{Row, Position};
+ghost use Rattle.brackets.specs.Content.{content_in};
 ghost use Rattle.brackets.specs.Reached.{ReachedPut};
 
-use scope::grammar::Kind;
+use scope::grammar::{Key, Kind};
 use scope::tables::Tables;
 
-// the codes of values: a mass, a text, a composition
-pub const MASS: usize = 1;
-
-const TEXT: usize = 2;
-
-pub const COMPOSITION: usize = 4;
-
-// the codes of the keys that are asked for: `Obs`, INFO
-pub const OBS: usize = 7;
-
-const INFO: usize = 13;
-
-// the codes of kinds; every other is of unknown position
-const LABILE: usize = 2;
-
-const N_TERM: usize = 3;
-
-const ON_RESIDUE: usize = 4;
-
-const ON_RANGE: usize = 5;
-
-const C_TERM: usize = 6;
-
-const DECLARED: usize = 7;
+// What a part has as its value; the number in the tables is that of the variant.
+#[derive(Clone, Copy, Debug, PartialEq, Eq)]
+pub enum Content {
+    Mass = 1,
+    Text,
+    Reference,
+    Composition,
+}
 
 // How many parts there are.
 pub fn parts(bytes: &[u8], k: usize) -> usize
@@ -49,6 +34,7 @@ pub fn parts(bytes: &[u8], k: usize) -> usize
 }
 
 // The count.
+#[tactic(auto, unfolding(scope::specs::Layout::bracket_in))]
 pub fn count(bytes: &[u8], k: usize) -> usize
     requires { Row bytes.now k }
     ensures { ((ns : List ℤ) → result ≡ (bracket_in bytes.now ns k).count) × (result < byte_limit) }
@@ -56,37 +42,48 @@ pub fn count(bytes: &[u8], k: usize) -> usize
     areas::count(bytes, k)
 }
 
-// The kind of a code.
+// The kind of a code; every other code is of unknown position.
 fn kind_of(code: usize) -> Kind
     ensures { result ≡ kind_in code }
 {
-    if code == LABILE {
-        return Kind::Labile;
+    match code {
+        2 => Kind::Labile,
+        3 => Kind::NTerm,
+        4 => Kind::OnResidue,
+        5 => Kind::OnRange,
+        6 => Kind::CTerm,
+        7 => Kind::Declared,
+        _ => Kind::Unknown,
     }
-    if code == N_TERM {
-        return Kind::NTerm;
-    }
-    if code == ON_RESIDUE {
-        return Kind::OnResidue;
-    }
-    if code == ON_RANGE {
-        return Kind::OnRange;
-    }
-    if code == C_TERM {
-        return Kind::CTerm;
-    }
-    if code == DECLARED {
-        return Kind::Declared;
-    }
-    Kind::Unknown
 }
 
 // The kind.
+#[tactic(auto, unfolding(scope::specs::Layout::bracket_in))]
 pub fn kind(bytes: &[u8], k: usize) -> Kind
     requires { Row bytes.now k }
     ensures { (ns : List ℤ) → result ≡ (bracket_in bytes.now ns k).kind }
 {
     kind_of(areas::kind(bytes, k))
+}
+
+// What a code of values says; every other code is a reference.
+fn content_of(code: usize) -> Content
+    ensures { result ≡ content_in code }
+{
+    match code {
+        1 => Content::Mass,
+        2 => Content::Text,
+        4 => Content::Composition,
+        _ => Content::Reference,
+    }
+}
+
+// What part j has as its value.
+pub fn content_at(bytes: &[u8], k: usize, j: usize) -> Content
+    requires { (Row bytes.now k) × (j < part_limit) }
+    ensures { result ≡ content_in (value_field bytes.now k j) }
+{
+    content_of(areas::value(bytes, k, j))
 }
 
 // Whether all its parts are INFO.
@@ -95,13 +92,11 @@ fn only_info(bytes: &[u8], k: usize) -> bool
     ensures { (ns : List ℤ) → result ≡ only_info (bracket_in bytes.now ns k) }
 {
     let m = parts(bytes, k);
-    let mut j: usize = 0;
-    while j < m {
+    for j in 0..m {
         let key = areas::key(bytes, k, j);
-        if key != INFO {
+        if key != Key::Info as usize {
             return false;
         }
-        j += 1;
     }
     true
 }
@@ -111,21 +106,7 @@ pub fn is_referring(bytes: &[u8], k: usize) -> bool
     requires { Row bytes.now k }
     ensures { (ns : List ℤ) → result ≡ is_referring (bracket_in bytes.now ns k) }
 {
-    let m = parts(bytes, k);
-    if m == 0 {
-        return false;
-    }
-    let value = areas::value(bytes, k, 0);
-    if value == MASS {
-        return false;
-    }
-    if value == TEXT {
-        return false;
-    }
-    if value == COMPOSITION {
-        return false;
-    }
-    true
+    parts(bytes, k) != 0 && content_at(bytes, k, 0) == Content::Reference
 }
 
 // Whether a part of it has a label.
@@ -134,13 +115,11 @@ pub fn is_labelled(bytes: &[u8], k: usize) -> bool
     ensures { (ns : List ℤ) → result ≡ is_labelled (bracket_in bytes.now ns k) }
 {
     let m = parts(bytes, k);
-    let mut j: usize = 0;
-    while j < m {
+    for j in 0..m {
         let label = areas::label_length(bytes, k, j);
         if label != 0 {
             return true;
         }
-        j += 1;
     }
     false
 }
@@ -150,40 +129,23 @@ pub fn is_modification(bytes: &[u8], k: usize) -> bool
     requires { Row bytes.now k }
     ensures { (ns : List ℤ) → result ≡ is_modification (bracket_in bytes.now ns k) }
 {
-    if only_info(bytes, k) {
-        return false;
-    }
-    if is_referring(bytes, k) {
-        return false;
-    }
-    true
+    !only_info(bytes, k) && !is_referring(bytes, k)
 }
 
 // Whether a bracket of this kind stands on a residue or terminus.
 fn on_one_position(kind: Kind) -> bool
     ensures { result ≡ on_one_position kind }
 {
-    if kind.is(Kind::NTerm) {
-        return true;
-    }
-    if kind.is(Kind::OnResidue) {
-        return true;
-    }
-    kind.is(Kind::CTerm)
+    matches!(kind, Kind::NTerm | Kind::OnResidue | Kind::CTerm)
 }
 
 // Whether it is placed.
+#[tactic(auto, unfolding(scope::specs::Positions::is_placed))]
 pub fn is_placed(bytes: &[u8], k: usize) -> bool
     requires { Row bytes.now k }
     ensures { (ns : List ℤ) → result ≡ is_placed (bracket_in bytes.now ns k) }
 {
-    if is_modification(bytes, k) {
-        if is_labelled(bytes, k) {
-            return false;
-        }
-        return on_one_position(kind(bytes, k));
-    }
-    false
+    is_modification(bytes, k) && !is_labelled(bytes, k) && on_one_position(kind(bytes, k))
 }
 
 // Whether it is a declared modification: one that is placed wherever a place of it names what stands there.
@@ -191,10 +153,7 @@ pub fn is_declared(bytes: &[u8], k: usize) -> bool
     requires { Row bytes.now k }
     ensures { (ns : List ℤ) → result ≡ is_declared (bracket_in bytes.now ns k).kind && is_modification (bracket_in bytes.now ns k) }
 {
-    if kind(bytes, k).is(Kind::Declared) {
-        return is_modification(bytes, k);
-    }
-    false
+    kind(bytes, k) == Kind::Declared && is_modification(bytes, k)
 }
 
 // Whether one of its places is this site.
@@ -203,13 +162,11 @@ fn is_named(bytes: &[u8], k: usize, site: u8) -> bool
     ensures { (ns : List ℤ) → result ≡ member site (map (λ p. p.site) (bracket_in bytes.now ns k).places) }
 {
     let m = areas::places(bytes, k);
-    let mut j: usize = 0;
-    while j < m {
+    for j in 0..m {
         let s = areas::site(bytes, k, j);
         if site == s {
             return true;
         }
-        j += 1;
     }
     false
 }
@@ -220,13 +177,12 @@ fn site_at(bytes: &[u8], x: usize) -> u8
     ensures { (ns : List ℤ) → result ≡ get_or (sites (tables_in bytes.now ns)) x 0 }
 {
     if x == 0 {
-        return Tables::N_TERMINUS;
+        Tables::N_TERMINUS
+    } else if areas::residues(bytes) < x {
+        Tables::C_TERMINUS
+    } else {
+        areas::letter(bytes, x - 1)
     }
-    let n = areas::residues(bytes);
-    if n < x {
-        return Tables::C_TERMINUS;
-    }
-    areas::letter(bytes, x - 1)
 }
 
 // Whether one of the places of bracket k names what stands at position x.
@@ -244,12 +200,10 @@ pub fn reached(bytes: &[u8], k: usize) -> usize
 {
     let end = areas::residues(bytes) + 2;
     let mut n: usize = 0;
-    let mut x: usize = 0;
-    while x < end {
+    for x in 0..end {
         if names(bytes, k, x) {
             n += 1;
         }
-        x += 1;
     }
     n
 }
@@ -261,13 +215,11 @@ pub fn put_reached(bytes: &[u8], k: usize, out: &mut [u16]) -> usize
 {
     let all = areas::residues(bytes) + 2;
     let mut n: usize = 0;
-    let mut x: usize = 0;
-    while x < all {
+    for x in 0..all {
         if names(bytes, k, x) {
             out[n] = x as u16;
             n += 1;
         }
-        x += 1;
     }
     n
 }
@@ -276,25 +228,24 @@ pub fn put_reached(bytes: &[u8], k: usize, out: &mut [u16]) -> usize
 fn unlabelled_copies(kind: Kind, count: usize) -> usize
     ensures { result ≡ unlabelled_copies kind count }
 {
-    if kind.is(Kind::Unknown) {
-        return count;
+    match kind {
+        Kind::Unknown => count,
+        Kind::OnRange => 1,
+        _ => 0,
     }
-    if kind.is(Kind::OnRange) {
-        return 1;
-    }
-    0
 }
 
 // How many copies of it float.
+#[tactic(auto, unfolding(scope::specs::Modifications::copies))]
 pub fn copies_of(bytes: &[u8], k: usize) -> usize
     requires { Row bytes.now k }
     ensures { (ns : List ℤ) → result ≡ copies (bracket_in bytes.now ns k) }
 {
-    if is_modification(bytes, k) {
-        if is_labelled(bytes, k) {
-            return 1;
-        }
-        return unlabelled_copies(kind(bytes, k), areas::count(bytes, k));
+    if !is_modification(bytes, k) {
+        0
+    } else if is_labelled(bytes, k) {
+        1
+    } else {
+        unlabelled_copies(kind(bytes, k), areas::count(bytes, k))
     }
-    0
 }

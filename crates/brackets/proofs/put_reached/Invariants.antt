@@ -1,10 +1,6 @@
 -- `brackets::put_reached` meets its contract. The loop: the positions before x that are named are laid over what the slice begins with. Assumes nothing.
-use Prim.Native.Nat.{◌-◌}
 use Rattle.brackets.proofs.Places.{Naming, Put}
 use Rattle.brackets.proofs.put_reached.Given as goal
 
 abbrev pub invariant-loop-x : goal.invariant-loop-x
 invariant-loop-x l = Naming l.bytes l.k l.all l.x (Put l.n l.initial.out l.out)
-
-abbrev pub decreases-loop-x : goal.decreases-loop-x
-decreases-loop-x l = l.all - l.x

@@ -1,10 +1,6 @@
 -- `brackets::reached` meets its contract. The loop: n of the positions before x are named. Assumes nothing.
-use Prim.Native.Nat.{◌-◌}
 use Rattle.brackets.proofs.Places.{Naming, Counted}
 use Rattle.brackets.proofs.reached.Given as goal
 
 abbrev pub invariant-loop-x : goal.invariant-loop-x
 invariant-loop-x l = Naming l.bytes l.k l.end l.x (Counted l.n)
-
-abbrev pub decreases-loop-x : goal.decreases-loop-x
-decreases-loop-x l = l.end - l.x

@@ -5,10 +5,11 @@ use mathlib.Core.Option.{Option, none, some}
 use mathlib.Core.Logic.{◌⊎◌, inl, inr}
 use mathlib.Core.List.{List, ◌∷◌}
 use Prim.Native.Nat.{ℕ, ◌+◌, ◌-◌, ◌≤◌, ◌<◌}
-use native.Mathlib.Nat.{le_refl}
 use native.Mathlib.Omega.{arith}
-use borrow.Author.Tests.{eqb-true, lt-ltb, le-ltb}
-use lib.Dec.{eqb, ltb}
+use borrow.Author.Tests.{eqb-true}
+use lib.Dec.{eqb}
+use Rattle.std.specs.Prelude.{Option as Maybe, Some as Just, None as Nothing, IfSome}
+use Rattle.std.specs.Option.{option_or}
 use lib.IntN.{ℤ, pos}
 use Rattle.scope.specs.declared.grammar.Key.TheVariants.{Obs}
 use Rattle.scope.specs.Limits.{part_limit}
@@ -89,32 +90,37 @@ module _ (bs : List ℕ) (ns : List ℤ) (k : ℕ) where
   own = (bracket_in bs ns k).parts
 
   -- part j is come to, and no part before it states a mass; the first that has a measured one is part i, if there is one
-  pub record Sought (m i j : ℕ) : Type 0 where
+  -- the mass of the part that was measured first, if one was; else r
+  abbrev measured_or : Maybe ℕ → Option ℤ → Option ℤ
+  measured_or Nothing r = r
+  measured_or (Just i) r = some (mass_of_part i)
+
+  pub record Sought (m : ℕ) (i : Maybe ℕ) (j : ℕ) : Type 0 where
     pub inside : j ≤ m
     pub many : m ≡ parts_field bs k
     pub few : m ≤ part_limit
-    pub place : i ≤ m
+    pub place : IfSome i (λ x. x < m)
     pub unstated : first_of false own ≡ first_of false (rest m j)
-    pub found : first_of true own ≡ cond (ltb i m) (some (mass_of_part i)) (first_of true (rest m j))
+    pub found : first_of true own ≡ measured_or i (first_of true (rest m j))
 
-  pub sought_start : {m : ℕ} → m ≡ parts_field bs k → m ≤ part_limit → Sought m m 0
+  pub sought_start : {m : ℕ} → m ≡ parts_field bs k → m ≤ part_limit → Sought m Nothing 0
   unfolding bracket_in
   sought_start {m} e few =
       record {
         inside = omega arith;
         many = e;
         few = few;
-        place = le_refl m;
+        place = tt;
         unstated = all_of false;
-        found = all_of true ∙ ap (λ t. cond t (some (mass_of_part m)) (first_of true (rest m 0))) (sym (le-ltb m m (le_refl m)));
+        found = all_of true;
       }
     where
       all_of : (obs : Bool) → first_of obs own ≡ first_of obs (rest m 0)
       all_of obs = ap (λ n. first_of obs (tabled (part_in bs ns k) 0 n)) (sym e) ∙ ap (first_of obs) (tabled_all (part_in bs ns k) m)
 
-  module _ {m i j : ℕ} (s : Sought m i j) (h : j < m) where
+  module _ {m j : ℕ} {i : Maybe ℕ} (s : Sought m i j) (h : j < m) where
     -- a part without a mass
-    pub sought_none : {i' : ℕ} → weighs (value_field bs k j) ≡ false → i' ≡ i → Sought m i' (j + 1)
+    pub sought_none : {i' : Maybe ℕ} → weighs (value_field bs k j) ≡ false → i' ≡ i → Sought m i' (j + 1)
     sought_none w e =
         subst (λ x. Sought m x (j + 1)) (sym e)
         (record {
@@ -123,7 +129,7 @@ module _ (bs : List ℕ) (ns : List ℤ) (k : ℕ) where
           few = s.few;
           place = s.place;
           unstated = s.unstated ∙ pass false;
-          found = s.found ∙ ap (cond (ltb i m) (some (mass_of_part i))) (pass true);
+          found = s.found ∙ ap (measured_or i) (pass true);
         })
       where
         pass : (obs : Bool) → first_of obs (rest m j) ≡ first_of obs (rest m (j + 1))
@@ -140,52 +146,43 @@ module _ (bs : List ℕ) (ns : List ℤ) (k : ℕ) where
         unstated_still : first_of false own ≡ first_of false (rest m (j + 1))
         unstated_still = s.unstated ∙ from false h ∙ rw (w, o)
 
-        -- the first measured mass
-        pub sought_first : {i' : ℕ} → i ≡ m → i' ≡ j → Sought m i' (j + 1)
-        sought_first q e =
-            subst (λ x. Sought m x (j + 1)) (sym e)
-            (record {
-              inside = omega arith;
-              many = s.many;
-              few = s.few;
-              place = s.inside;
-              unstated = unstated_still;
-              found =
-                  s.found ∙ ap (λ t. cond t (some (mass_of_part i)) (first_of true (rest m j))) (le-ltb i m (omega (arith, q)))
-                  ∙ from true h ∙ rw (w, o, lt-ltb j m h);
-            })
+        -- the first measured mass, or a further one
+        pub sought_more : {i' : Maybe ℕ} → i' ≡ option_or i (Just j) → Sought m i' (j + 1)
+        sought_more e = subst (λ x. Sought m x (j + 1)) (sym e) (by i s.place s.found)
+          where
+            by : (x : Maybe ℕ) → IfSome x (λ y. y < m) → first_of true own ≡ measured_or x (first_of true (rest m j)) → Sought m (option_or x (Just j)) (j + 1)
+            by Nothing p f =
+                record {
+                  inside = omega arith;
+                  many = s.many;
+                  few = s.few;
+                  place = h;
+                  unstated = unstated_still;
+                  found = f ∙ from true h ∙ rw (w, o);
+                }
+            by (Just y) p f = record { inside = omega arith; many = s.many; few = s.few; place = p; unstated = unstated_still; found = f }
 
-        -- a further one
-        pub sought_further : {i' : ℕ} → (i ≡ m → ⊥) → i' ≡ i → Sought m i' (j + 1)
-        sought_further q e =
-            let before : ltb i m ≡ true = lt-ltb i m (omega (arith, q, s.place)) in
-            subst (λ x. Sought m x (j + 1)) (sym e)
-            (record {
-              inside = omega arith;
-              many = s.many;
-              few = s.few;
-              place = s.place;
-              unstated = unstated_still;
-              found = s.found ∙ rw before;
-            })
+  -- a part that was measured is one of them
+  pub sought_part : {m j x : ℕ} {i : Maybe ℕ} → Sought m i j → i ≡ Just x → x < m
+  sought_part {m} s q = subst (λ y. IfSome y (λ z. z < m)) q s.place
 
   -- past the last part
-  module _ {m i j : ℕ} (s : Sought m i j) (h : m ≤ j) where
+  module _ {m j : ℕ} {i : Maybe ℕ} (s : Sought m i j) (h : m ≤ j) where
     none_from : (obs : Bool) → first_of obs (rest m j) ≡ none
     unfolding keep first_mass
     none_from obs = ap (first_of obs) (tabled_end (part_in bs ns k) j m h)
 
-    ended : mass_of (bracket_in bs ns k) ≡ given (cond (ltb i m) (some (mass_of_part i)) none) Measured None
+    ended : mass_of (bracket_in bs ns k) ≡ given (measured_or i none) Measured None
     unfolding mass_of
     ended =
         ap (λ x. given x Stated (given (first_of true own) Measured None)) (s.unstated ∙ none_from false)
-        ∙ ap (λ x. given x Measured None) (s.found ∙ ap (cond (ltb i m) (some (mass_of_part i))) (none_from true))
+        ∙ ap (λ x. given x Measured None) (s.found ∙ ap (measured_or i) (none_from true))
 
-    pub sought_measured : i < m → Measured (mass_of_part i) ≡ mass_of (bracket_in bs ns k)
-    sought_measured q = sym (ended ∙ rw (lt-ltb i m q))
+    pub sought_measured : {x : ℕ} → i ≡ Just x → Measured (mass_of_part x) ≡ mass_of (bracket_in bs ns k)
+    sought_measured {x} q = sym (ended ∙ ap (λ y. given (measured_or y none) Measured None) q)
 
-    pub sought_nothing : m ≤ i → None ≡ mass_of (bracket_in bs ns k)
-    sought_nothing q = sym (ended ∙ rw (le-ltb i m q))
+    pub sought_nothing : i ≡ Nothing → None ≡ mass_of (bracket_in bs ns k)
+    sought_nothing q = sym (ended ∙ ap (λ y. given (measured_or y none) Measured None) q)
 
 -- ---- what a mass adds to a sum, by its cases: a measured mass and none are not stated
 unstated : (m : Mass) → ((x : ℤ) × (m ≡ Measured x)) ⊎ (m ≡ None) → stated m ≡ none

@@ -26,7 +26,7 @@ use Rattle.basics.specs.Tabled.{tabled_at, tabled_end, tabled_all, residues_many
 use Rattle.basics.specs.Choice.{branch}
 use Rattle.scope.specs.declared.answers.Mass.{Mass}
 use Rattle.scope.specs.declared.answers.Mass.TheVariants.{Stated}
-use Rattle.masses.specs.declared.Weight.TheVariants.{Total, Lacks}
+use Rattle.std.specs.Prelude.{Ok, Err}
 use Rattle.masses.specs.Reach.{Reach}
 use Rattle.masses.specs.Weights.{weight_of}
 use Rattle.mass_laws.specs.Terms.{mass_limit}
@@ -232,10 +232,10 @@ module _ {bs : List ℕ} {ns : List ℤ} {n k : ℕ} {s : ℤ} {w : ℕ} (i : We
   sum_read = back s (omega (arith, i.inside, i.many, i.bounds.few_brackets_lem, i.before.small))
 
   -- the machine reads the sum back from its bits
-  pub weighing_total : n ≤ k → w ≡ 0 → Total (to_z w64 (of_z w64 s)) ≡ weight_of (tables_in bs ns)
+  pub weighing_total : n ≤ k → w ≡ 0 → Ok (to_z w64 (of_z w64 s)) ≡ weight_of (tables_in bs ns)
   unfolding weight_of
-  weighing_total h z = ap Total sum_read ∙ rw (lacking_so h, total_so h, eq-eqb w 0 z)
+  weighing_total h z = ap Ok sum_read ∙ rw (lacking_so h, total_so h, eq-eqb w 0 z)
 
-  pub weighing_lacks : n ≤ k → (w ≡ 0 → ⊥) → Lacks w ≡ weight_of (tables_in bs ns)
+  pub weighing_lacks : n ≤ k → (w ≡ 0 → ⊥) → Err (record { count = w }) ≡ weight_of (tables_in bs ns)
   unfolding weight_of
   weighing_lacks h z = rw (lacking_so h, ne_eqb w 0 z)

@@ -3,7 +3,6 @@
 
 ghost use Rattle.std.specs.Prelude.{◌≡◌, true, List, min, ◌+◌, ◌*◌, ◌-◌, ◌<◌, ◌≤◌, ◌^◌, eqb, ℤ, pos, nat_abs, ◌+ℤ◌, ◌*ℤ◌};
 ghost use Rattle.scope.specs.declared.grammar.Key.TheVariants.{Obs};
-ghost use Rattle.scope.specs.declared.answers.Booked.TheVariants.{Done};
 ghost use Rattle.scope.specs.Limits.{residue_limit, part_limit, decimal_limit, count_limit, copy_limit, position_limit};
 ghost use Rattle.scope.specs.Keys.{key_code};
 ghost use Rattle.scope.specs.Modifications.{is_modification, copies};
@@ -19,23 +18,25 @@ ghost use Rattle.masses.specs.Tallies.{CanTally, Tallied};
 ghost use Rattle.masses.specs.Booking.{CanBook, booked, CanBookNamed, NamedBooked, CanPlace, BracketPlaced, PlacedBooked, CanPut, CanFloat, CopiesPut};
 
 use areas::{count, first, residues};
-use brackets::{copies_of, is_declared, is_modification, is_placed, kind, names, parts, reached};
-use scope::answers::{Booked, Ledger, Mass, Placement};
-use scope::grammar::Kind;
+use brackets::{
+    Content, content_at, copies_of, is_declared, is_modification, is_placed, kind, names, parts,
+    reached,
+};
+use scope::answers::{Ledger, Mass, Placement};
+use scope::grammar::{Key, Kind};
 use scope::tables::Number;
 
-// The total, or how many modifications have no stated mass.
-#[derive(Drop)]
-pub enum Weight {
-    Total(i64),
-    Lacks(usize),
+// There is no total: so many modifications have no stated mass.
+#[derive(Clone, Copy, Debug, PartialEq, Eq)]
+pub struct Lacking {
+    pub count: usize,
 }
 
 // How many decimals a mass has at most.
 const DECIMALS: usize = Number::DECIMALS as usize;
 
 // The sum so far, and how many modifications had no stated mass.
-#[derive(Drop)]
+#[derive(Clone, Copy)]
 struct Tally {
     sum: i64,
     lacks: usize,
@@ -47,8 +48,7 @@ fn to_decimals(m: i64, decimals: usize) -> i64
     ensures { result ≡ millionths (number_in m decimals) }
 {
     let u = tens::power(DECIMALS - decimals) as i64;
-    let whole = m / u;
-    whole * u
+    m / u * u
 }
 
 // The mass of part j of bracket k.
@@ -64,8 +64,10 @@ fn has_mass(bytes: &[u8], k: usize, j: usize) -> bool
     requires { (Row bytes.now k) × (j < part_limit) }
     ensures { result ≡ weighs (value_field bytes.now k j) }
 {
-    let value = areas::value(bytes, k, j);
-    (value == brackets::MASS) | (value == brackets::COMPOSITION)
+    matches!(
+        content_at(bytes, k, j),
+        Content::Mass | Content::Composition
+    )
 }
 
 // Whether it stands behind `Obs`.
@@ -73,7 +75,7 @@ fn is_measured(bytes: &[u8], k: usize, j: usize) -> bool
     requires { (Row bytes.now k) × (j < part_limit) }
     ensures { result ≡ eqb (key_field bytes.now k j) (key_code Obs) }
 {
-    areas::key(bytes, k, j) == brackets::OBS
+    areas::key(bytes, k, j) == Key::Obs as usize
 }
 
 // "its first mass without `Obs`, else its first `Obs` mass, else none": stated, only measured, or none.
@@ -82,23 +84,19 @@ pub fn bracket_mass(bytes: &[u8], numbers: &[i64], k: usize) -> Mass
     ensures { result ≡ mass_of (bracket_in bytes.now numbers.now k) }
 {
     let n = parts(bytes, k);
-    let mut measured = n;
-    let mut j: usize = 0;
-    while j < n {
+    let mut measured = None;
+    for j in 0..n {
         if has_mass(bytes, k, j) {
             if !is_measured(bytes, k, j) {
                 return Mass::Stated(part_mass(bytes, numbers, k, j));
             }
-            if measured == n {
-                measured = j;
-            }
+            measured = measured.or(Some(j));
         }
-        j += 1;
     }
-    if measured < n {
-        return Mass::Measured(part_mass(bytes, numbers, k, measured));
+    match measured {
+        Some(j) => Mass::Measured(part_mass(bytes, numbers, k, j)),
+        None => Mass::None,
     }
-    Mass::None
 }
 
 // What it adds to a sum: a stated mass, and nothing else.
@@ -126,8 +124,7 @@ fn times(n: usize, m: i64) -> i64
     requires { (n ≤ position_limit) × (Small m) }
     ensures { result ≡ pos n *ℤ m }
 {
-    let c = n as i64;
-    c * m
+    n as i64 * m
 }
 
 // How often bracket k counts, if it is a modification: a declared one once for each position that it reaches.
@@ -135,10 +132,11 @@ fn counts(bytes: &[u8], k: usize) -> usize
     requires { (Row bytes.now k) × (residues_field bytes.now ≤ residue_limit) }
     ensures { ((ns : List ℤ) → is_modification (bracket_in bytes.now ns k) ≡ true → result ≡ times (tables_in bytes.now ns) (bracket_in bytes.now ns k)) × (result ≤ position_limit) }
 {
-    if kind(bytes, k).is(Kind::Declared) {
-        return reached(bytes, k);
+    if kind(bytes, k) == Kind::Declared {
+        reached(bytes, k)
+    } else {
+        count(bytes, k)
     }
-    count(bytes, k)
 }
 
 // The tally with bracket k.
@@ -146,44 +144,37 @@ fn tally_with(bytes: &[u8], numbers: &[i64], k: usize, t: Tally) -> Tally
     requires { CanTally bytes.now numbers.now k t.sum t.lacks }
     ensures { Tallied (tables_in bytes.now numbers.now) (bracket_in bytes.now numbers.now k) t.sum t.lacks result.sum result.lacks }
 {
-    if is_modification(bytes, k) {
-        let n = counts(bytes, k);
-        let mass = bracket_mass(bytes, numbers, k);
-        match mass {
-            Mass::Stated(m) => {
-                return Tally {
-                    sum: add(t.sum, times(n, m)),
-                    lacks: t.lacks,
-                };
-            }
-            Mass::Measured(_) | Mass::None => {
-                return Tally {
-                    sum: t.sum,
-                    lacks: t.lacks + n,
-                };
-            }
-        }
+    if !is_modification(bytes, k) {
+        return t;
     }
-    t
+    let n = counts(bytes, k);
+    match bracket_mass(bytes, numbers, k) {
+        Mass::Stated(m) => Tally {
+            sum: add(t.sum, times(n, m)),
+            ..t
+        },
+        Mass::Measured(_) | Mass::None => Tally {
+            lacks: t.lacks + n,
+            ..t
+        },
+    }
 }
 
 // The total of the tables, or how many modifications have no stated mass.
-pub fn weigh(bytes: &[u8], numbers: &[i64]) -> Weight
+pub fn weigh(bytes: &[u8], numbers: &[i64]) -> Result<i64, Lacking>
     requires { Bounds bytes.now numbers.now }
     ensures { result ≡ weight_of (tables_in bytes.now numbers.now) }
 {
     let n = areas::brackets(bytes);
     let mut t = Tally { sum: 0, lacks: 0 };
-    let mut k: usize = 0;
-    while k < n {
+    for k in 0..n {
         t = tally_with(bytes, numbers, k, t);
-        k += 1;
     }
-    let lacks = t.lacks;
-    if lacks == 0 {
-        return Weight::Total(t.sum);
+    if t.lacks == 0 {
+        Ok(t.sum)
+    } else {
+        Err(Lacking { count: t.lacks })
     }
-    Weight::Lacks(lacks)
 }
 
 // "the whole number becomes a double with nothing lost and is divided once by 1,000,000"
@@ -201,8 +192,7 @@ fn book(l: &mut [i64; Ledger::POSITIONS], position: u16, m: i64)
 {
     let x = position as usize;
     if x < Ledger::POSITIONS {
-        let old = l[x];
-        l[x] = add(old, m);
+        l[x] = add(l[x], m);
     }
 }
 
@@ -212,12 +202,10 @@ fn book_named(bytes: &[u8], k: usize, l: &mut [i64; Ledger::POSITIONS], m: i64)
     ensures { NamedBooked bytes.now k l.old l.new m }
 {
     let end = residues(bytes) + 2;
-    let mut x: usize = 0;
-    while x < end {
+    for x in 0..end {
         if names(bytes, k, x) {
             book(l, x as u16, m);
         }
-        x += 1;
     }
 }
 
@@ -229,9 +217,7 @@ fn book_placed(bytes: &[u8], numbers: &[i64], k: usize, l: &mut [i64; Ledger::PO
     if is_declared(bytes, k) {
         let m = mass_or_0(bytes, numbers, k);
         book_named(bytes, k, l, m);
-        return;
-    }
-    if is_placed(bytes, k) {
+    } else if is_placed(bytes, k) {
         let m = mass_or_0(bytes, numbers, k);
         let x = first(bytes, k);
         book(l, x as u16, m);
@@ -241,31 +227,16 @@ fn book_placed(bytes: &[u8], numbers: &[i64], k: usize, l: &mut [i64; Ledger::PO
 // The ledger with the placed modifications.
 fn placed_ledger(bytes: &[u8], numbers: &[i64]) -> Ledger
     requires { Bounds bytes.now numbers.now }
-    ensures { (result.booked ≡ Done) × (PlacedBooked bytes.now numbers.now result.at) }
+    ensures { PlacedBooked bytes.now numbers.now result.at }
 {
     let mut l = Ledger {
-        booked: Booked::Done,
         at: [0; Ledger::POSITIONS],
     };
     let n = areas::brackets(bytes);
-    let mut k: usize = 0;
-    while k < n {
+    for k in 0..n {
         book_placed(bytes, numbers, k, &mut l.at);
-        k += 1;
     }
     l
-}
-
-// Where c entries of a placement from i on end.
-fn until(i: usize, c: usize) -> usize
-    requires { (i ≤ copy_limit) × (c ≤ count_limit) }
-    ensures { result ≡ min (i + c) copy_limit }
-{
-    let end = i + c;
-    if end < Placement::COPIES {
-        return end;
-    }
-    Placement::COPIES
 }
 
 // c copies of a mass, at the placement's positions from i on. How many copies are booked then.
@@ -279,12 +250,9 @@ fn book_copies(
     requires { CanPut l.old i c m }
     ensures { CopiesPut l.old l.new at i c m result }
 {
-    let end = until(i, c);
-    let mut j = i;
-    while j < end {
-        let position = at[j];
-        book(l, position, m);
-        j += 1;
+    let end = (i + c).min(Placement::COPIES);
+    for j in i..end {
+        book(l, at[j], m);
     }
     end
 }
@@ -312,16 +280,13 @@ fn book_bracket(
 // The ledger of a placement.
 pub fn ledger_of(bytes: &[u8], numbers: &[i64], p: Placement) -> Ledger
     requires { Bounds bytes.now numbers.now }
-    ensures { (result.booked ≡ Done) × (result.at ≡ ledger (tables_in bytes.now numbers.now) p.at) }
+    ensures { result.at ≡ ledger (tables_in bytes.now numbers.now) p.at }
 {
-    let at = p.at;
     let mut l = placed_ledger(bytes, numbers);
     let n = areas::brackets(bytes);
-    let mut k: usize = 0;
     let mut i: usize = 0;
-    while k < n {
-        i = book_bracket(bytes, numbers, k, &mut l.at, at, i);
-        k += 1;
+    for k in 0..n {
+        i = book_bracket(bytes, numbers, k, &mut l.at, p.at, i);
     }
     l
 }

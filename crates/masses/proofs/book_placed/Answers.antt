@@ -3,13 +3,9 @@ use mathlib.Core.Path.{◌≡◌}
 use mir.Syntax.{w64}
 use mir.Val.{to_z, of_z}
 use Rattle.brackets.specs.Fields.{first_is}
-use Rattle.masses.proofs.PartLaws.{reach_row}
 use Rattle.masses.proofs.LedgerLaws.{placing_named, placing_fits, placed_reached, placed_own, placed_nowhere}
 use borrow.Author.Rules.{rules}
 use Rattle.masses.proofs.book_placed.Goals as goal
-
-pub is_declared-requires : goal.is_declared-requires
-is_declared-requires c = reach_row c.requires.reach
 
 pub book_named-requires : goal.book_named-requires
 book_named-requires c =
@@ -22,9 +18,6 @@ returns-then-is_declared c =
     let mass = c.mass_or_0-m in
     let read : to_z w64 (of_z w64 mass.result) ≡ mass.result = search rules in
     placed_reached c.requires read mass.ensures (c.is_declared.ensures _) c.if-is_declared.true c.book_named.ensures
-
-pub is_placed-requires : goal.is_placed-requires
-is_placed-requires c = reach_row c.requires.reach
 
 pub book-requires : goal.book-requires
 book-requires c =

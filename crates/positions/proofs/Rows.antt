@@ -336,9 +336,6 @@ left true true = refl
 left true false = refl
 left false s = refl
 
-pub cleared : {base : ℕ} {old new : List ℕ} → RowSet base (between 0 (position_limit - 1)) (always 0) old new → RowSet base (λ x. true) (always 0) old new
-cleared m = marked_as (λ x. true) m (λ x h. sym (ap (λ t. t && leb x (position_limit - 1)) (le-leb 0 x (omega arith)) ∙ le-leb x (position_limit - 1) (omega arith)))
-
 pub row_is : (bs : List ℕ) (ns : List ℤ) (row : List ℕ) {base : ℕ} {p : ℕ → Bool} {old clear new : List ℕ} → FreeIs bs ns row → RowSet base (λ x. true) (always 0) old clear → RowSet base p (held_in row) clear new → RowIs base (λ x. p x && not (struck_at bs ns x)) old new
 row_is bs ns row {base} {p} {old} {clear} {new} free a b =
     record {

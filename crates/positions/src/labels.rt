@@ -17,10 +17,7 @@ fn same_bytes(bytes: &[u8], a: usize, m: usize, b: usize, n: usize) -> bool
     requires { (a + m ≤ length bytes.now) × (b + n ≤ length bytes.now) }
     ensures { result ≡ same (part a m bytes.now) (part b n bytes.now) }
 {
-    if m != n {
-        return false;
-    }
-    same_text(bytes, a, b, n)
+    m == n && same_text(bytes, a, b, n)
 }
 
 // Where the label of part j of bracket k begins: behind the part's text.
@@ -37,11 +34,7 @@ fn is_label(bytes: &[u8], a: usize, m: usize, k: usize, j: usize) -> bool
     ensures { (ns : List ℤ) → result ≡ among (part a m bytes.now) (name_of (part_in bytes.now ns k j)) }
 {
     let n = label_length(bytes, k, j);
-    if n == 0 {
-        return false;
-    }
-    let b = label_from(bytes, k, j);
-    same_bytes(bytes, a, m, b, n)
+    n != 0 && same_bytes(bytes, a, m, label_from(bytes, k, j), n)
 }
 
 // Whether a part of bracket k has the m bytes from a on as its label.
@@ -50,12 +43,10 @@ fn has_label(bytes: &[u8], a: usize, m: usize, k: usize) -> bool
     ensures { (ns : List ℤ) → result ≡ among (part a m bytes.now) (names_of (bracket_in bytes.now ns k)) }
 {
     let p = parts(bytes, k);
-    let mut j: usize = 0;
-    while j < p {
+    for j in 0..p {
         if is_label(bytes, a, m, k, j) {
             return true;
         }
-        j += 1;
     }
     false
 }
@@ -66,11 +57,7 @@ fn shares_label(bytes: &[u8], k: usize, j: usize, r: usize) -> bool
     ensures { (ns : List ℤ) → result ≡ shared (name_of (part_in bytes.now ns k j)) (names_of (bracket_in bytes.now ns r)) }
 {
     let m = label_length(bytes, k, j);
-    if m == 0 {
-        return false;
-    }
-    let a = label_from(bytes, k, j);
-    has_label(bytes, a, m, r)
+    m != 0 && has_label(bytes, label_from(bytes, k, j), m, r)
 }
 
 // Whether brackets k and r share a label.
@@ -79,12 +66,10 @@ fn shares(bytes: &[u8], k: usize, r: usize) -> bool
     ensures { (ns : List ℤ) → result ≡ shared (names_of (bracket_in bytes.now ns k)) (names_of (bracket_in bytes.now ns r)) }
 {
     let p = parts(bytes, k);
-    let mut j: usize = 0;
-    while j < p {
+    for j in 0..p {
         if shares_label(bytes, k, j, r) {
             return true;
         }
-        j += 1;
     }
     false
 }
@@ -94,11 +79,5 @@ pub fn refers_to(bytes: &[u8], r: usize, k: usize) -> bool
     requires { (LabelsInside bytes.now k) × (LabelsInside bytes.now r) }
     ensures { (ns : List ℤ) → result ≡ shared (defined_by (bracket_in bytes.now ns k)) (referred_by (bracket_in bytes.now ns r)) }
 {
-    if is_referring(bytes, r) {
-        if is_referring(bytes, k) {
-            return false;
-        }
-        return shares(bytes, k, r);
-    }
-    false
+    is_referring(bytes, r) && !is_referring(bytes, k) && shares(bytes, k, r)
 }

@@ -11,7 +11,7 @@ ghost use Rattle.positions.specs.Copies.{Added};
 ghost use Rattle.positions.specs.Marked.{Filled};
 
 use crate::marks::{fill_row, strike_out};
-use areas::{Floaters, brackets, wide};
+use areas::{Floaters, brackets};
 use brackets::copies_of;
 use scope::answers::{Ledger, Placement};
 
@@ -26,11 +26,9 @@ fn add_copies(f: Floaters, m: usize, k: u8) -> Floaters
     let n = f.count;
     let mut index = f.index;
     let mut copy = f.copy;
-    let mut j: usize = 0;
-    while j < m {
+    for j in 0..m {
         index[n + j] = k;
         copy[n + j] = (j + 1) as u8;
-        j += 1;
     }
     Floaters {
         count: n + m,
@@ -50,11 +48,9 @@ pub fn find_floaters(bytes: &[u8], numbers: &[i64]) -> Floaters
         index: [0; Placement::COPIES],
         copy: [0; Placement::COPIES],
     };
-    let mut k: usize = 0;
-    while k < b {
+    for k in 0..b {
         let m = copies_of(bytes, k);
         f = add_copies(f, m, k as u8);
-        k += 1;
     }
     f
 }
@@ -64,14 +60,10 @@ pub fn fill_table(bytes: &[u8], numbers: &[i64], f: Floaters, tab: &mut [u8])
     requires { (Bounds bytes.now numbers.now) × (FloatersAre bytes.now numbers.now f.count f.index f.copy) × (row_limit ≤ length tab.old) }
     ensures { Filled bytes.now numbers.now f.count tab.old tab.new }
 {
-    let count = f.count;
-    let index = f.index;
     let mut free: [u8; Ledger::POSITIONS] = [1; Ledger::POSITIONS];
     strike_out(bytes, &mut free);
-    let mut g: usize = 0;
-    while g < count {
-        let k = wide(index[g]);
+    for g in 0..f.count {
+        let k = usize::from(f.index[g]);
         fill_row(bytes, k, &free, tab, g * Ledger::POSITIONS);
-        g += 1;
     }
 }

@@ -14,27 +14,13 @@ use brackets::{is_declared, is_labelled, is_placed, kind, names};
 use scope::answers::Ledger;
 use scope::grammar::Kind;
 
-// Positions a to e of the row at base are set to v.
-fn set_all(tab: &mut [u8], base: usize, a: usize, e: usize, v: u8)
-    requires { (e < position_limit) × (base + position_limit ≤ length tab.old) }
-    ensures { RowSet base (between a e) (always v) tab.old tab.new }
-{
-    let mut x = a;
-    while x <= e {
-        tab[base + x] = v;
-        x += 1;
-    }
-}
-
 // Positions a to e of the row at base are marked where they are free.
 fn mark(free: &[u8; Ledger::POSITIONS], tab: &mut [u8], base: usize, a: usize, e: usize)
     requires { (e < position_limit) × (base + position_limit ≤ length tab.old) }
     ensures { RowSet base (between a e) (held_in free.now) tab.old tab.new }
 {
-    let mut x = a;
-    while x <= e {
+    for x in a..=e {
         tab[base + x] = free[x];
-        x += 1;
     }
 }
 
@@ -69,10 +55,8 @@ fn mark_references(
     ensures { (ns : List ℤ) → RowSet base (references_at bytes.now ns k) (held_in free.now) tab.old tab.new }
 {
     let b = brackets(bytes);
-    let mut r: usize = 0;
-    while r < b {
+    for r in 0..b {
         mark_reference(bytes, k, r, free, tab, base);
-        r += 1;
     }
 }
 
@@ -80,10 +64,7 @@ fn mark_references(
 fn has_place(kind: Kind) -> bool
     ensures { result ≡ not (unknown_or_labile kind) }
 {
-    if kind.is(Kind::Unknown) {
-        return false;
-    }
-    !kind.is(Kind::Labile)
+    !matches!(kind, Kind::Unknown | Kind::Labile)
 }
 
 // Whether bracket k is an unlabelled one of unknown position.
@@ -91,10 +72,7 @@ fn is_anywhere(bytes: &[u8], k: usize) -> bool
     requires { Row bytes.now k }
     ensures { (ns : List ℤ) → result ≡ is_unlabelled_unknown (bracket_in bytes.now ns k) (bracket_in bytes.now ns k).kind }
 {
-    if is_labelled(bytes, k) {
-        return false;
-    }
-    kind(bytes, k).is(Kind::Unknown)
+    !is_labelled(bytes, k) && kind(bytes, k) == Kind::Unknown
 }
 
 // The positions of bracket k are marked if it has some of its own.
@@ -117,10 +95,10 @@ fn mark_all(bytes: &[u8], k: usize, free: &[u8; Ledger::POSITIONS], tab: &mut [u
     if is_anywhere(bytes, k) {
         let n = residues(bytes);
         mark(free, tab, base, 1, n);
-        return;
+    } else {
+        mark_own(bytes, k, free, tab, base);
+        mark_references(bytes, k, free, tab, base);
     }
-    mark_own(bytes, k, free, tab, base);
-    mark_references(bytes, k, free, tab, base);
 }
 
 // Every position that a place of bracket k names is struck out.
@@ -129,12 +107,10 @@ fn strike_named(bytes: &[u8], k: usize, free: &mut [u8])
     ensures { (ns : List ℤ) → RowSet 0 (reached_at bytes.now ns k) (always 0) free.old free.new }
 {
     let end = residues(bytes) + 2;
-    let mut x: usize = 0;
-    while x < end {
+    for x in 0..end {
         if names(bytes, k, x) {
             free[x] = 0;
         }
-        x += 1;
     }
 }
 
@@ -145,11 +121,8 @@ fn strike(bytes: &[u8], k: usize, free: &mut [u8])
 {
     if is_declared(bytes, k) {
         strike_named(bytes, k, free);
-        return;
-    }
-    if is_placed(bytes, k) {
-        let x = first(bytes, k);
-        free[x] = 0;
+    } else if is_placed(bytes, k) {
+        free[first(bytes, k)] = 0;
     }
 }
 
@@ -159,10 +132,8 @@ pub fn strike_out(bytes: &[u8], free: &mut [u8])
     ensures { (ns : List ℤ) → RowSet 0 (struck_at bytes.now ns) (always 0) free.old free.new }
 {
     let b = brackets(bytes);
-    let mut k: usize = 0;
-    while k < b {
+    for k in 0..b {
         strike(bytes, k, free);
-        k += 1;
     }
 }
 
@@ -171,7 +142,7 @@ fn clear_row(tab: &mut [u8], base: usize)
     requires { base + position_limit ≤ length tab.old }
     ensures { RowSet base (λ x. true) (always 0) tab.old tab.new }
 {
-    set_all(tab, base, 0, Ledger::POSITIONS - 1, 0);
+    tab[base..base + Ledger::POSITIONS].fill(0);
 }
 
 // The row at base has 1 where the floater of bracket k may stand, and 0 elsewhere.

@@ -1,7 +1,8 @@
+use native.Mathlib.Omega.{arith}
 use mathlib.Core.Path.{◌≡◌}
 use lib.ListN.{length}
 use Rattle.scope.specs.Limits.{copy_limit}
-use Rattle.positions.proofs.Found.{copying_start, copying_next, copying_end}
+use Rattle.positions.proofs.Found.{copying_start, copying_next}
 use borrow.Author.Rules.{rules}
 use Rattle.positions.proofs.add_copies.Goals as goal
 
@@ -12,7 +13,4 @@ loop-j-init c =
     copying_start _ _ _ _ _ b e
 
 pub loop-j-preserved : goal.loop-j-preserved
-loop-j-preserved c = copying_next c.loop-j.invariant c.requires c.loop-j-test.true
-
-pub returns : goal.returns
-returns c = copying_end c.loop-j.invariant c.loop-j-test.false
+loop-j-preserved c = copying_next c.loop-j.invariant c.requires (omega arith)

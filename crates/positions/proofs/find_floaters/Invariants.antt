@@ -1,10 +1,6 @@
 -- `positions::find_floaters` meets its contract. The loop's invariant: the floaters of the brackets before k are found.
-use Prim.Native.Nat.{◌-◌}
 use Rattle.positions.proofs.Found.{Finding}
 use Rattle.positions.proofs.find_floaters.Given as goal
 
 abbrev pub invariant-loop-k : goal.invariant-loop-k
 invariant-loop-k l = Finding l.bytes l.numbers l.b l.k l.f.count l.f.index l.f.copy
-
-abbrev pub decreases-loop-k : goal.decreases-loop-k
-decreases-loop-k l = l.b - l.k

@@ -1,13 +1,12 @@
 -- `positions::labels::is_label` meets its contract. Assumes nothing.
+use mathlib.Core.Path.{ap, ◌∙◌}
+use mathlib.Core.Bool.{not}
+use borrow.Author.Tests.{eq-eqb}
 use Rattle.positions.proofs.Names.{among_none, among_one}
-use native.Mathlib.Omega.{arith}
 use Rattle.positions.proofs.labels.is_label.Goals as goal
 
-pub returns-then-n-eq0 : goal.returns-then-n-eq0
-returns-then-n-eq0 c = among_none _ _ _ _ c.label_length-n.ensures.0 c.if-n-eq0.true
+pub returns-else-n-ne0 : goal.returns-else-n-ne0
+returns-else-n-ne0 c ns = ap not (eq-eqb _ _ c.if-n-ne0.false) ∙ among_none _ _ _ _ c.label_length-n.ensures.0 c.if-n-ne0.false ns
 
-pub same_bytes-requires : goal.same_bytes-requires
-same_bytes-requires c = (c.requires.2, omega (arith, c.requires.0.inside c.args.j c.requires.1))
-
-pub returns : goal.returns
-returns c = among_one _ _ _ _ c.label_length-n.ensures.0 c.if-n-eq0.false c.label_from-b.ensures c.same_bytes.ensures
+pub returns-then-n-ne0 : goal.returns-then-n-ne0
+returns-then-n-ne0 c = among_one _ _ _ _ c.label_length-n.ensures.0 c.if-n-ne0.true c.label_from.ensures c.same_bytes.ensures

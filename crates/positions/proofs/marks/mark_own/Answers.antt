@@ -1,20 +1,7 @@
 -- `positions::marks::mark_own` meets its contract. Assumes nothing.
 use Rattle.brackets.specs.Fields.{first_is, last_is}
-use Rattle.positions.specs.Legible.{row_of, row_room, last_within}
 use Rattle.positions.proofs.Rows.{own_marked, no_own}
 use Rattle.positions.proofs.marks.mark_own.Goals as goal
-
-pub kind-requires : goal.kind-requires
-kind-requires c = row_of c.requires.0 c.requires.1
-
-pub first-a-requires : goal.first-a-requires
-first-a-requires c = row_room c.requires.0 c.requires.1
-
-pub last-e-requires : goal.last-e-requires
-last-e-requires c = row_room c.requires.0 c.requires.1
-
-pub mark-requires : goal.mark-requires
-mark-requires c = (last_within c.requires.0 c.requires.1 c.last-e.ensures.0, c.requires.2)
 
 pub returns-then-has_place : goal.returns-then-has_place
 returns-then-has_place c =

@@ -1,10 +1,6 @@
 -- `positions::marks::strike_named` meets its contract. The loop: of the positions before x, each that is named is struck out. Assumes nothing.
-use Prim.Native.Nat.{◌-◌}
 use Rattle.positions.proofs.Rows.{Striking}
 use Rattle.positions.proofs.marks.strike_named.Given as goal
 
 abbrev pub invariant-loop-x : goal.invariant-loop-x
 invariant-loop-x l = Striking l.bytes l.k l.end l.x l.initial.free l.free
-
-abbrev pub decreases-loop-x : goal.decreases-loop-x
-decreases-loop-x l = l.end - l.x

@@ -1,48 +1,53 @@
--- Laws of the first row of a floater: what was found after one row more. Assumes nothing.
-use mathlib.Core.Path.{◌≡◌, refl, sym, ap, ◌∙◌}
-use mathlib.Core.Bool.{Bool, true, false, cond}
-use mathlib.Core.Option.{none, some}
-use mathlib.Core.List.{List, [], ◌∷◌, ◌++◌}
-use Prim.Native.Nat.{ℕ, suc, ◌+◌, ◌<◌}
-use native.Mathlib.Nat.{add-zero}
-use native.Mathlib.Omega.{arith}
+-- The first row of a floater, sought one row after the other.
+use mathlib.Core.Path.{◌≡◌, sym, ap, ◌∙◌}
+use mathlib.Core.Bool.{cond}
+use mathlib.Core.Option.{Option, none, some}
+use mathlib.Core.List.{List}
+use Prim.Native.Nat.{ℕ, ◌+◌, ◌≤◌, ◌<◌, min, suc}
+use native.Mathlib.Numerals.{add-one}
+use borrow.Author.Tests.{eq-eqb, ne_eqb, le-ltb}
 use lib.Dec.{eqb}
-use lib.ListN.{length, get_or, take}
-use lib.Seq.{take-suc, length-take-le}
+use lib.ListN.{length, get_or, take, drop, drop_of_length-le}
+use lib.Seq.{drop-cons}
+use Rattle.scope.specs.declared.answers.Row.{Row}
 use Rattle.scope.specs.declared.answers.Site.{Site}
-use Rattle.scope.specs.Positions.{first_row}
-use Rattle.rows.specs.declared.Seen.{Seen}
-use Rattle.rows.specs.First.{no_site, seen_of, next_seen}
+use Rattle.scope.specs.Limits.{row_limit}
+use Rattle.scope.specs.Positions.{first_row, lookup}
+use Rattle.scope.specs.Answers.{refuses, findable, looks_up}
 
--- ---- one row more
--- the row of s, at index i, is looked at after what was found
-abbrev then : Seen → ℕ → Site → ℕ → Seen
-then seen i s w = next_seen seen i s.floater s.position w
+-- a row that is no row
+abbrev pub no_site : Site
+no_site = record { floater = 0; position = 0 }
 
-seen_append : (w i : ℕ) (l : List Site) (s : Site) → seen_of (first_row w i (l ++ (s ∷ []))) ≡ then (seen_of (first_row w i l)) (i + length l) s w
-unfolding first_row
-seen_append w i [] s = go (eqb s.floater w) ∙ ap (λ n. then (seen_of none) n s w) (sym (add-zero i))
-  where
-    go : (t : Bool) → seen_of (cond t (some (record { index = i; position = s.position })) none) ≡ cond t (record { found = true; index = i; position = s.position }) (seen_of none)
-    go true = refl
-    go false = refl
-seen_append w i (x ∷ l) s = go (eqb x.floater w) (seen_append w (i + 1) l s ∙ ap (λ n. then (seen_of (first_row w (i + 1) l)) n s w) (let e : i + 1 + length l ≡ i + suc (length l) = omega arith in e))
-  where
-    go : (t : Bool) → seen_of (first_row w (i + 1) (l ++ (s ∷ []))) ≡ then (seen_of (first_row w (i + 1) l)) (i + suc (length l)) s w
-        → seen_of (cond t (some (record { index = i; position = x.position })) (first_row w (i + 1) (l ++ (s ∷ []))))
-        ≡ then (seen_of (cond t (some (record { index = i; position = x.position })) (first_row w (i + 1) l))) (i + suc (length l)) s w
-    go true e = refl
-    go false e = e
+-- what is sought in all rows is sought from row i on
+pub record Seeking (rows : List Site) (w i : ℕ) : Type 0 where
+  pub rest : first_row w 0 rows ≡ first_row w i (drop i rows)
 
--- what was found among the first m rows
-abbrev pub seen_in : List Site → ℕ → ℕ → Seen
-seen_in rows w m = seen_of (first_row w 0 (take m rows))
+module _ {rows : List Site} {w i : ℕ} (s : Seeking rows w i) where
+  here : i < length rows → first_row w 0 rows ≡ cond (eqb (get_or rows i no_site).floater w) (some (record { index = i; position = (get_or rows i no_site).position })) (first_row w (i + 1) (drop (suc i) rows))
+  unfolding first_row
+  here h = s.rest ∙ ap (first_row w i) (drop-cons rows i no_site h)
 
-pub seen_none : (rows : List Site) (w : ℕ) → seen_in rows w 0 ≡ seen_of none
-unfolding first_row
-seen_none rows w = refl
+  pub seeking_found : i < length rows → (get_or rows i no_site).floater ≡ w → first_row w 0 rows ≡ some (record { index = i; position = (get_or rows i no_site).position })
+  seeking_found h e =
+      here h ∙ ap (λ t. cond t (some (record { index = i; position = (get_or rows i no_site).position })) (first_row w (i + 1) (drop (suc i) rows))) (eq-eqb (get_or rows i no_site).floater w e)
 
-pub seen_next : (rows : List Site) (w m : ℕ) → m < length rows → then (seen_in rows w m) m (get_or rows m no_site) w ≡ seen_in rows w (suc m)
-seen_next rows w m h =
-    ap (λ n. then (seen_in rows w m) n (get_or rows m no_site) w) (let e : m ≡ 0 + length (take m rows) = omega (arith, length-take-le m rows (omega arith)) in e)
-    ∙ sym (ap (λ l. seen_of (first_row w 0 l)) (take-suc rows m no_site h) ∙ seen_append w 0 (take m rows) (get_or rows m no_site))
+  pub seeking_next : i < length rows → ((get_or rows i no_site).floater ≡ w → ⊥) → Seeking rows w (i + 1)
+  seeking_next h e =
+      record {
+        rest =
+            here h ∙ ap (λ t. cond t (some (record { index = i; position = (get_or rows i no_site).position })) (first_row w (i + 1) (drop (suc i) rows))) (ne_eqb (get_or rows i no_site).floater w e)
+            ∙ ap (λ n. first_row w (i + 1) (drop n rows)) (sym (add-one i));
+      }
+
+  pub seeking_end : length rows ≤ i → first_row w 0 rows ≡ none
+  unfolding first_row
+  seeking_end h = s.rest ∙ ap (first_row w i) (drop_of_length-le rows h)
+
+-- what is answered of what was found among the first m rows
+pub looked : (rows : List Site) (n f : ℕ) {m : ℕ} {o : Option Row} → m ≡ min n row_limit → row_limit ≤ length rows → first_row f 0 (take m rows) ≡ o → findable o ≡ looks_up rows n f
+looked rows n f {m} {o} e h q =
+    sym
+    (ap (λ t. cond t (refuses 13 0) (findable (lookup rows n f))) (le-ltb (length rows) row_limit h)
+    ∙ ap (λ k. findable (first_row f 0 (take k rows))) (sym e)
+    ∙ ap findable q)

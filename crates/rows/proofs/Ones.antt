@@ -1,105 +1,31 @@
 -- Laws of the places that hold 1, and of the rows that they give. Assumes nothing.
 use mathlib.Core.Path.{◌≡◌, refl, sym, ap, ◌∙◌}
-use mathlib.Core.Logic.{⊎_elim}
 use mathlib.Core.Bool.{Bool, true, false, cond}
-use mathlib.Core.List.{List, [], ◌∷◌, ◌++◌, map, append_assoc, map-append}
+use mathlib.Core.List.{List, [], ◌∷◌, ◌++◌, map, append-nil, map-append}
 use Prim.Native.Nat.{ℕ, zero, suc, ◌+◌, ◌-◌, ◌*◌, ◌/◌, ◌%◌, ◌≤◌, ◌<◌}
-use native.Mathlib.Nat.{add-zero}
-use native.Mathlib.Numerals.{add-one}
+use native.Mathlib.Nat.{add-zero, not-suc-le-zero, le_of_suc-le-suc}
 use native.Mathlib.Omega.{arith}
 use borrow.Author.Tests.{eq-eqb, ne_eqb}
 use lib.Dec.{eqb}
-use lib.ListN.{length, get_or, take, drop, set, length-map, get_or-map, get_or-eq_default}
-use lib.Seq.{drop-cons, take-suc, take_all, length-take-le, set-append_seam}
+use lib.ListN.{length, get_or, set, length-map, length-append}
 use Rattle.scope.specs.declared.answers.Site.{Site}
 use Rattle.scope.specs.Limits.{position_limit}
 use Rattle.scope.specs.Lists.{keep, tabled, laid}
 use Rattle.scope.specs.Positions.{rows_from}
 use Rattle.areas.specs.Floats.{list_in, lists_in}
-use Rattle.basics.specs.Choice.{by_test}
-use Rattle.basics.specs.Tests.{same?}
-use Rattle.basics.specs.Tabled.{tabled_at, tabled_end, tabled_append}
+use Rattle.basics.specs.Tabled.{tabled_append}
 use Rattle.basics.specs.Lists.{keep_append}
 use Rattle.rows.specs.Places.{ones_from, site_of}
 
--- ---- a search from one place on
-pub record Seeking (tab : List ℕ) (from end x : ℕ) : Type 0 where
-  pub within : x ≤ end
-  pub rest : ones_from tab from end ≡ ones_from tab x end
-
-pub seeking_start : (tab : List ℕ) (from end : ℕ) → from ≤ end → Seeking tab from end from
-seeking_start tab from end h = record { within = h; rest = refl }
-
-ones_at : (tab : List ℕ) (x end : ℕ) → x < end → ones_from tab x end ≡ cond (eqb (get_or tab x 0) 1) (x ∷ []) [] ++ ones_from tab (x + 1) end
-unfolding keep
-ones_at tab x end h = rw (tabled_at (λ x. x) x end h)
-
-ones_end : (tab : List ℕ) (x end : ℕ) → end ≤ x → ones_from tab x end ≡ []
-unfolding keep
-ones_end tab x end h = rw (tabled_end (λ x. x) x end h)
-
-pub seeking_next : {tab : List ℕ} {from end x : ℕ} → Seeking tab from end x → x < end → (get_or tab x 0 ≡ 1 → ⊥) → Seeking tab from end (x + 1)
-seeking_next {tab} {from} {end} {x} s h ne =
-    record {
-      within = omega arith;
-      rest = s.rest ∙ ones_at tab x end h ∙ ap (λ t. cond t (x ∷ []) [] ++ ones_from tab (x + 1) end) (ne_eqb (get_or tab x 0) 1 ne);
-    }
-
-pub seeking_found : {tab : List ℕ} {from end x : ℕ} → Seeking tab from end x → x < end → get_or tab x 0 ≡ 1 → x ≡ get_or (ones_from tab from end) 0 end
-seeking_found {tab} {from} {end} {x} s h e =
-    sym (ap (λ l. get_or l 0 end) (s.rest ∙ ones_at tab x end h ∙ ap (λ t. cond t (x ∷ []) [] ++ ones_from tab (x + 1) end) (eq-eqb (get_or tab x 0) 1 e)))
-
-pub seeking_end : {tab : List ℕ} {from end x : ℕ} → Seeking tab from end x → end ≤ x → end ≡ get_or (ones_from tab from end) 0 end
-seeking_end {tab} {from} {end} {x} s h = sym (ap (λ l. get_or l 0 end) (s.rest ∙ ones_end tab x end h))
-
--- ---- the places, one after the other
-keep_first : (p : ℕ → Bool) (i n x : ℕ) (l : List ℕ) → keep p (tabled (λ x. x) i n) ≡ x ∷ l → (i ≤ x) × (x < i + n) × (l ≡ keep p (tabled (λ x. x) (x + 1) (i + n - (x + 1))))
+-- the places before x + 1 are those before x, and x if its byte is 1
+ones_last : (tab : List ℕ) (x : ℕ) → ones_from tab 0 (x + 1) ≡ ones_from tab 0 x ++ cond (eqb (get_or tab x 0) 1) (x ∷ []) []
 unfolding keep tabled
-keep_first p i zero x l e = absurd (let z : ◌≡◌ {A = ℕ} 0 1 = cc in omega arith)
-keep_first p i (suc n) x l e =
-    by_test (p i) (λ t. taken (sym (ap (λ s. cond s (i ∷ []) [] ++ keep p (tabled (λ x. x) (i + 1) n)) t) ∙ e))
-    (λ t. passed (keep_first p (i + 1) n x l (sym (ap (λ s. cond s (i ∷ []) [] ++ keep p (tabled (λ x. x) (i + 1) n)) t) ∙ e)))
-  where
-    taken : i ∷ keep p (tabled (λ x. x) (i + 1) n) ≡ x ∷ l → (i ≤ x) × (x < i + suc n) × (l ≡ keep p (tabled (λ x. x) (x + 1) (i + suc n - (x + 1))))
-    taken q =
-        let a : i ≡ x = cc in
-        let b : keep p (tabled (λ x. x) (i + 1) n) ≡ l = cc in
-        (omega arith, omega arith, sym b ∙ ap (λ y. keep p (tabled (λ x. x) (y + 1) n)) a ∙ ap (λ m. keep p (tabled (λ x. x) (x + 1) m)) (let c : n ≡ i + suc n - (x + 1) = omega arith in c))
-
-    passed : (i + 1 ≤ x) × (x < i + 1 + n) × (l ≡ keep p (tabled (λ x. x) (x + 1) (i + 1 + n - (x + 1)))) → (i ≤ x) × (x < i + suc n) × (l ≡ keep p (tabled (λ x. x) (x + 1) (i + suc n - (x + 1))))
-    passed q = (omega (arith, q.0), omega (arith, q.1), q.2 ∙ ap (λ m. keep p (tabled (λ x. x) (x + 1) (m - (x + 1)))) (let c : i + 1 + n ≡ i + suc n = omega arith in c))
-
-ones_first : (tab : List ℕ) (from end x : ℕ) (l : List ℕ) → from ≤ end → ones_from tab from end ≡ x ∷ l → (x < end) × (l ≡ ones_from tab (x + 1) end)
-ones_first tab from end x l h e =
-    let r : (from ≤ x) × (x < from + (end - from)) × (l ≡ keep (λ x. eqb (get_or tab x 0) 1) (tabled (λ x. x) (x + 1) (from + (end - from) - (x + 1)))) = keep_first (λ x. eqb (get_or tab x 0) 1) from (end - from) x l e in
-    (omega (arith, r.1), r.2 ∙ ap (λ m. keep (λ x. eqb (get_or tab x 0) 1) (tabled (λ x. x) (x + 1) (m - (x + 1)))) (let f : from + (end - from) ≡ end = omega arith in f))
-
-module _ (tab : List ℕ) (end : ℕ) where
-  -- place i, and the end after the last one
-  abbrev pub place_at : ℕ → ℕ
-  place_at i = get_or (ones_from tab 0 end) i end
-
-  pub place_next : (i : ℕ) → i < length (ones_from tab 0 end) → (place_at i < end) × (drop (suc i) (ones_from tab 0 end) ≡ ones_from tab (place_at i + 1) end)
-  place_next zero h = ones_first tab 0 end (place_at 0) (drop 1 (ones_from tab 0 end)) (omega arith) (drop-cons (ones_from tab 0 end) 0 end h)
-  place_next (suc i) h =
-      let p : (place_at i < end) × (drop (suc i) (ones_from tab 0 end) ≡ ones_from tab (place_at i + 1) end) = place_next i (omega arith) in
-      ones_first tab (place_at i + 1) end (place_at (suc i)) (drop (suc (suc i)) (ones_from tab 0 end)) (omega (arith, p.0)) (sym p.1 ∙ drop-cons (ones_from tab 0 end) (suc i) end h)
-
-  pub place_below : (i : ℕ) → i < length (ones_from tab 0 end) → place_at i < end
-  place_below i h = (place_next i h).0
-
-  get_d_front : (l : List ℕ) (i : ℕ) → get_or (drop i l) 0 end ≡ get_or l i end
-  get_d_front [] zero = refl
-  get_d_front [] (suc i) = refl
-  get_d_front (x ∷ l) zero = refl
-  get_d_front (x ∷ l) (suc i) = get_d_front l i
-
-  -- the place after place i
-  pub place_after : (i r : ℕ) → i < length (ones_from tab 0 end) → r ≡ get_or (ones_from tab (place_at i + 1) end) 0 end → r ≡ place_at (suc i)
-  place_after i r h e = e ∙ ap (λ l. get_or l 0 end) (sym (place_next i h).1) ∙ get_d_front (ones_from tab 0 end) (suc i)
-
-  pub place_last : place_at (length (ones_from tab 0 end)) ≡ end
-  place_last = get_or-eq_default (ones_from tab 0 end) end (omega arith)
+ones_last tab x =
+    ap (λ n. keep (λ y. eqb (get_or tab y 0) 1) (tabled (λ y. y) 0 n)) (let e : x + 1 - 0 ≡ x - 0 + 1 = omega arith in e)
+    ∙ ap (keep (λ y. eqb (get_or tab y 0) 1)) (tabled_append 0 (x - 0) 1)
+    ∙ keep_append (λ y. eqb (get_or tab y 0) 1) (tabled (λ y. y) 0 (x - 0)) (tabled (λ y. y) (0 + (x - 0)) 1)
+    ∙ ap (λ y. ones_from tab 0 x ++ (cond (eqb (get_or tab y 0) 1) (y ∷ []) [] ++ [])) (let e : 0 + (x - 0) ≡ x = omega arith in e)
+    ∙ ap (λ l. ones_from tab 0 x ++ l) (append-nil (cond (eqb (get_or tab x 0) 1) (x ∷ []) []))
 
 -- ---- no more places than there are bytes
 length_keep : (p : ℕ → Bool) (i n : ℕ) → length (keep p (tabled (λ x. x) i n)) ≤ n
@@ -114,19 +40,11 @@ length_keep p i (suc n) = go (p i) (length_keep p (i + 1) n)
 pub few_ones : (tab : List ℕ) (end : ℕ) → length (ones_from tab 0 end) ≤ end
 few_ones tab end = omega (arith, length_keep (λ x. eqb (get_or tab x 0) 1) 0 (end - 0))
 
--- ---- rows laid one after the other
-pub laid_all : (rows old : List Site) → laid (take (length rows) rows) old ≡ laid rows old
-laid_all rows old = ap (λ l. laid l old) (take_all (length rows) rows (omega arith))
-
-pub laid_next : (rows old : List Site) (i : ℕ) (d : Site) → i < length rows → length rows ≤ length old → set (laid (take i rows) old) i (get_or rows i d) ≡ laid (take (suc i) rows) old
-laid_next rows old i d h l =
-    let e : length (take i rows) ≡ i = length-take-le i rows (omega arith) in
-    let f : length (take (suc i) rows) ≡ suc i = length-take-le (suc i) rows (omega arith) in
-    ap (λ n. set (take i rows ++ drop n old) i (get_or rows i d)) e
-    ∙ ap (λ r. set (take i rows ++ r) i (get_or rows i d)) (drop-cons old i d (omega arith))
-    ∙ ap (λ n. set (take i rows ++ get_or old i d ∷ drop (suc i) old) n (get_or rows i d)) (sym e)
-    ∙ set-append_seam (take i rows) (get_or old i d) (drop (suc i) old) (get_or rows i d)
-    ∙ sym (ap (λ n. take (suc i) rows ++ drop n old) f ∙ ap (λ r. r ++ drop (suc i) old) (take-suc rows i d h) ∙ append_assoc (take i rows) (get_or rows i d ∷ []) (drop (suc i) old))
+laid_next : (l old : List Site) (v : Site) → length l < length old → set (laid l old) (length l) v ≡ laid (l ++ (v ∷ [])) old
+laid_next [] [] v h = absurd (not-suc-le-zero h)
+laid_next [] (y ∷ old) v h = refl
+laid_next (z ∷ l) [] v h = absurd (not-suc-le-zero h)
+laid_next (z ∷ l) (y ∷ old) v h = ap (λ m. z ∷ m) (laid_next l old v (le_of_suc-le-suc h))
 
 -- ---- the rows of the places are those of the lists
 -- the rows of one floater: positions from x on, at places from b + x on
@@ -166,25 +84,42 @@ rows_are tab count =
     ap (λ n. map site_of (keep (λ y. eqb (get_or tab y 0) 1) (tabled (λ y. y) 0 n))) (let e : count * position_limit - 0 ≡ count * position_limit = omega arith in e)
     ∙ rows_of_floaters tab 0 count
 
--- ---- rows filled in one after the other
-module _ (tab : List ℕ) (end : ℕ) where
-  -- a place before the end is one of them
-  pub place_more : (i : ℕ) → i ≤ length (ones_from tab 0 end) → place_at tab end i < end → i < length (ones_from tab 0 end)
-  place_more i l h = ⊎_elim
-      (λ (e : i ≡ length (ones_from tab 0 end)). absurd (let last : place_at tab end i ≡ end = ap (place_at tab end) e ∙ place_last tab end in omega arith))
-      (λ d. omega arith) (same? i (length (ones_from tab 0 end)))
+-- ---- rows filled in one after the other: i of them, for the places before x that hold 1
+pub record Filling (tab : List ℕ) (x i : ℕ) (old new : List Site) : Type 0 where
+  pub many : i ≡ length (ones_from tab 0 x)
+  pub few : i ≤ x
+  pub put : new ≡ laid (map site_of (ones_from tab 0 x)) old
 
-  -- the end is behind all of them
-  pub place_all : (i : ℕ) → i ≤ length (ones_from tab 0 end) → end ≤ place_at tab end i → i ≡ length (ones_from tab 0 end)
-  place_all i l h = ⊎_elim
-      (λ (e : i ≡ length (ones_from tab 0 end)). e)
-      (λ d. absurd (let below = place_below tab end i (omega arith) in omega arith)) (same? i (length (ones_from tab 0 end)))
+pub filling_start : (tab : List ℕ) (old : List Site) → Filling tab 0 0 old old
+unfolding keep tabled
+filling_start tab old = record { many = refl; few = omega arith; put = refl }
 
--- the row of place i laid over what the first i left
-pub laid_site : (ones : List ℕ) (old : List Site) (i d : ℕ) → i < length ones → length ones ≤ length old
-    → set (laid (take i (map site_of ones)) old) i (site_of (get_or ones i d)) ≡ laid (take (i + 1) (map site_of ones)) old
-laid_site ones old i d h l =
-    let e : length (map site_of ones) ≡ length ones = length-map ones site_of in
-    rw (add-one i)
-    (ap (λ (s : Site). set (laid (take i (map site_of ones)) old) i s) (sym (get_or-map site_of ones i d))
-    ∙ laid_next (map site_of ones) old i (site_of d) (omega arith) (omega arith))
+pub filling_one : {tab : List ℕ} {x i : ℕ} {old new : List Site} → Filling tab x i old new → i < length old → get_or tab x 0 ≡ 1 → Filling tab (x + 1) (i + 1) old (set new i (site_of x))
+filling_one {tab} {x} {i} {old} {new} f h e =
+    let ones : ones_from tab 0 (x + 1) ≡ ones_from tab 0 x ++ (x ∷ []) = ones_last tab x ∙ ap (λ t. ones_from tab 0 x ++ cond t (x ∷ []) []) (eq-eqb (get_or tab x 0) 1 e) in
+    let long : length (map site_of (ones_from tab 0 x)) ≡ i = length-map (ones_from tab 0 x) site_of ∙ sym f.many in
+    record {
+      many = omega (arith, f.many, ap length ones, length-append (ones_from tab 0 x) (x ∷ []));
+      few = omega (arith, f.few);
+      put =
+          ap (λ l. set l i (site_of x)) f.put
+          ∙ ap (λ n. set (laid (map site_of (ones_from tab 0 x)) old) n (site_of x)) (sym long)
+          ∙ laid_next (map site_of (ones_from tab 0 x)) old (site_of x) (omega (arith, long))
+          ∙ ap (λ l. laid l old) (sym (map-append site_of (ones_from tab 0 x) (x ∷ [])) ∙ ap (map site_of) (sym ones));
+    }
+
+pub filling_none : {tab : List ℕ} {x i : ℕ} {old new : List Site} → Filling tab x i old new → (get_or tab x 0 ≡ 1 → ⊥) → Filling tab (x + 1) i old new
+filling_none {tab} {x} {i} {old} {new} f e =
+    let ones : ones_from tab 0 (x + 1) ≡ ones_from tab 0 x =
+    ones_last tab x ∙ ap (λ t. ones_from tab 0 x ++ cond t (x ∷ []) []) (ne_eqb (get_or tab x 0) 1 e) ∙ append-nil (ones_from tab 0 x) in
+    record {
+      many = f.many ∙ ap length (sym ones);
+      few = omega (arith, f.few);
+      put = f.put ∙ ap (λ l. laid (map site_of l) old) (sym ones);
+    }
+
+pub filling_end : (tab : List ℕ) (count : ℕ) {x i : ℕ} {old new : List Site} → Filling tab x i old new → x ≡ count * position_limit
+    → (i ≡ length (rows_from 1 (lists_in tab count))) × (new ≡ laid (rows_from 1 (lists_in tab count)) old)
+filling_end tab count {x} {i} {old} {new} f e =
+    let rows : map site_of (ones_from tab 0 x) ≡ rows_from 1 (lists_in tab count) = ap (λ n. map site_of (ones_from tab 0 n)) e ∙ rows_are tab count in
+    (f.many ∙ sym (length-map (ones_from tab 0 x) site_of) ∙ ap length rows, f.put ∙ ap (λ l. laid l old) rows)

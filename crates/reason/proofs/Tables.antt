@@ -1,12 +1,10 @@
 -- The table and the lists that it holds: a set has too few positions by the one exactly where it has by the other; so the smallest set by the table, as a list, is the
 -- answer. Where all can stand by the table there is none, and else there is one (Hall).
-use mathlib.Core.Path.{◌≡◌, refl, sym, ap, ◌∙◌, subst}
-use mathlib.Core.Bool.{Bool, true, false, ◌&&◌, true≢false, false≢true}
+use mathlib.Core.Path.{◌≡◌, sym, ap, ◌∙◌, subst}
+use mathlib.Core.Bool.{Bool, false, ◌&&◌, true≢false}
 use mathlib.Core.List.{List, []}
-use Prim.Native.Nat.{ℕ, ◌<◌, ◌≤◌}
-use lib.Dec.{ltb}
+use Prim.Native.Nat.{ℕ, ◌<◌}
 use lib.ListN.{length}
-use borrow.Author.Tests.{ltb-true, ltb-false}
 use Rattle.scope.specs.Limits.{position_limit}
 use Rattle.scope.specs.Lists.{member}
 use Rattle.scope.specs.Positions.{Floating}
@@ -20,11 +18,12 @@ use Rattle.exchange.proofs.Laws.{ok_small}
 use Rattle.exchange.proofs.Rows.{lists_many, lists_at, list_may, may_list}
 use Rattle.placement_laws.specs.Terms.{may_stand_at}
 use Rattle.placement_laws.specs.Counts.{count, some, some_same}
-use Rattle.placement_laws.specs.Standing.{Full}
+use Rattle.placement_laws.specs.Standing.{place}
 use Rattle.placement_laws.specs.Hall.{Short, hall}
 use Rattle.placement_laws.specs.Smallest.{SmallestOf}
 use Rattle.placement_laws.specs.Reasons.{count_same, few_short, as_reason, smallest_listed}
-use Rattle.reason.specs.Smallest.{marked_in, Told}
+use Rattle.exchange.specs.declared.Standing.{Standing}
+use Rattle.std.specs.Prelude.{Option, Some, None, is_none}
 use Rattle.reason.specs.Named.{numbers_of}
 
 -- a set has too few positions by one table or by another that says the same
@@ -64,22 +63,7 @@ module _ (tab : List ℕ) (k : ℕ) (marks : List Bool) where
       let z = few_short f l e in
       none z.0 (short_same k (may_stand_at f) (may_in tab) (λ s x q. sym (may_same s x q)) z.0 (subst (λ n. Short (may_stand_at f) n position_limit z.0) (lists_many tab k) z.1))
 
--- ---- all can stand, or some have too few positions (Hall)
-module _ (tab : List ℕ) (k : ℕ) (v : ℕ → ℕ) (b : Bool) (first : IsFirst (may_in tab) k b v) where
-  pub all_stand : b ≡ true → (p : ℕ → Bool) → Short (may_in tab) k position_limit p → ⊥
-  all_stand e p short = go b first e
-    where
-      go : (b : Bool) → IsFirst (may_in tab) k b v → b ≡ true → ⊥
-      go true h e = (hall (may_in tab) position_limit (ok_small tab) k).1 (p, short) v h.0
-      go false h e = false≢true e
-
-  pub some_smallest : b ≡ false → {n : ℕ} {marks : List ℕ} → Told (may_in tab) k n marks → SmallestOf (may_in tab) k n (marked_in marks)
-  some_smallest e {n} told = told.found (few (ltb k n) refl)
-    where
-      none : (b : Bool) → IsFirst (may_in tab) k b v → b ≡ false → (u : ℕ → ℕ) → Full (may_in tab) k u → ⊥
-      none true h e = absurd (true≢false e)
-      none false h e = h
-
-      few : (c : Bool) → ltb k n ≡ c → n ≤ k
-      few true q = let z = (hall (may_in tab) position_limit (ok_small tab) k).0 (none b first e) in absurd (told.none (ltb-true k n q) z.0 z.1)
-      few false q = ltb-false k n q
+-- ---- where all can stand, no set has too few positions (Hall)
+pub all_stand : (tab : List ℕ) (k : ℕ) (o : Option Standing) → IsFirst (may_in tab) k o → is_none o ≡ false → (p : ℕ → Bool) → Short (may_in tab) k position_limit p → ⊥
+all_stand tab k (Some v) h e p short = (hall (may_in tab) position_limit (ok_small tab) k).1 (p, short) (place v.at) h.0
+all_stand tab k None h e p short = absurd (true≢false e)

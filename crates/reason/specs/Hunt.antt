@@ -13,7 +13,7 @@ abbrev pub union : (ℕ → ℕ → Bool) → ℕ → (ℕ → Bool) → ℕ →
 union ok k m x = some k (λ s. m s && ok s x)
 
 -- the first i floaters are decided: n of them are in the set, and their positions, c in number, are in the cover
-pub record Hunting (tab : List ℕ) (k i n : ℕ) (marks : List ℕ) (c : ℕ) (cover : List ℕ) : Type 0 where
+pub record Hunting (tab : List ℕ) (k i n : ℕ) (marks : List Bool) (c : ℕ) (cover : List Bool) : Type 0 where
   pub sized : Sized tab k
   pub inside : i ≤ k
   pub size : n ≡ count i (marked_in marks)
@@ -21,7 +21,7 @@ pub record Hunting (tab : List ℕ) (k i n : ℕ) (marks : List ℕ) (c : ℕ) (
   pub many : c ≡ count position_limit (marked_in cover)
 
 -- the cover, with the positions of floater i
-pub record Joined (tab : List ℕ) (i : ℕ) (cover : List ℕ) (c' : ℕ) (cover' : List ℕ) : Type 0 where
+pub record Joined (tab : List ℕ) (i : ℕ) (cover : List Bool) (c' : ℕ) (cover' : List Bool) : Type 0 where
   pub all : (x : ℕ) → x < position_limit → marked_in cover' x ≡ (marked_in cover x || may_in tab i x)
   pub many : c' ≡ count position_limit (marked_in cover')
 
@@ -33,6 +33,6 @@ pub record Won (ok : ℕ → ℕ → Bool) (k i : ℕ) (m : ℕ → Bool) (best 
   pub less : n < best
 
 -- the best is kept or beaten, and what is answered beats every set that has the first i floaters as m has them, or no such set is smaller than the best
-pub record Hunted (ok : ℕ → ℕ → Bool) (k i : ℕ) (m : ℕ → Bool) (best : ℕ) (b : List ℕ) (n : ℕ) (r : List ℕ) : Type 0 where
+pub record Hunted (ok : ℕ → ℕ → Bool) (k i : ℕ) (m : ℕ → Bool) (best : ℕ) (b : List Bool) (n : ℕ) (r : List Bool) : Type 0 where
   pub won : ((n ≡ best) × (r ≡ b)) ⊎ Won ok k i m best n (marked_in r)
   pub least : (p : ℕ → Bool) → Short ok k position_limit p → SameBelow i m p → Beats k n (marked_in r) p ⊎ ((n ≡ best) × (r ≡ b) × (best ≤ count k p))

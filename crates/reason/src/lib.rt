@@ -11,44 +11,40 @@ ghost use Rattle.reason.specs.Smallest.{marked_in, Told};
 ghost use Rattle.reason.specs.Hunt.{Joined, Hunting, Hunted};
 ghost use Rattle.reason.specs.Named.{numbers_of, Named, Competing};
 
-use scope::answers::{Ledger, Placement};
+use scope::answers::{Ledger, Placement, Why};
 
-// A set of floaters: how many, and a 1 for each.
-#[derive(Clone, Copy)]
+// A set of floaters: how many, and which.
+#[derive(Clone, Copy, Debug, PartialEq, Eq)]
 pub struct Set {
     pub n: usize,
-    pub marks: [u8; Placement::COPIES],
+    pub marks: [bool; Placement::COPIES],
 }
 
-// The positions of a set: how many, and a 1 for each.
+// The positions of a set: how many, and which.
 #[derive(Clone, Copy)]
-pub struct Cover {
-    pub n: usize,
-    pub at: [u8; Ledger::POSITIONS],
+struct Cover {
+    n: usize,
+    at: [bool; Ledger::POSITIONS],
 }
 
 // The positions of c and of floater i.
-fn join(tab: &[u8], i: usize, c: Cover) -> Cover
-    requires { (row_limit ≤ length tab.now) × (i < copy_limit) × (c.n ≡ count position_limit (marked_in c.at)) }
-    ensures { Joined tab.now i c.at result.n result.at }
+fn join(tab: &[u8], i: usize, c: &Cover) -> Cover
+    requires { (row_limit ≤ length tab.now) × (i < copy_limit) × (c.now.n ≡ count position_limit (marked_in c.now.at)) }
+    ensures { Joined tab.now i c.now.at result.n result.at }
 {
-    let mut d = c;
-    let mut x = 0;
-    while x < Ledger::POSITIONS {
-        if d.at[x] != 1 {
-            if exchange::may(tab, i, x) {
-                d.at[x] = 1;
-                d.n += 1;
-            }
+    let mut d = *c;
+    for x in 0..Ledger::POSITIONS {
+        if !d.at[x] && exchange::may(tab, i, x) {
+            d.at[x] = true;
+            d.n += 1;
         }
-        x += 1;
     }
     d
 }
 
 // The best of `best` and the sets that have the first i floaters as m has them; their positions are c.
-fn hunt(tab: &[u8], k: usize, i: usize, m: Set, c: Cover, best: Set) -> Set
-    requires { Hunting tab.now k i m.n m.marks c.n c.at }
+fn hunt(tab: &[u8], k: usize, i: usize, m: Set, c: &Cover, best: Set) -> Set
+    requires { Hunting tab.now k i m.n m.marks c.now.n c.now.at }
     ensures { Hunted (may_in tab.now) k i (marked_in m.marks) best.n best.marks result.n result.marks }
 {
     // with these positions or more, a set has too few only if it has c.n + 1 floaters or more
@@ -61,79 +57,67 @@ fn hunt(tab: &[u8], k: usize, i: usize, m: Set, c: Cover, best: Set) -> Set
     }
     if i < k {
         let mut on = m;
-        on.marks[i] = 1;
+        on.marks[i] = true;
         on.n = m.n + 1;
         let d = join(tab, i, c);
-        let b = hunt(tab, k, i + 1, on, d, best);
+        let b = hunt(tab, k, i + 1, on, &d, best);
         let mut off = m;
-        off.marks[i] = 0;
+        off.marks[i] = false;
         return hunt(tab, k, i + 1, off, c, b);
     }
-    if m.n < best.n {
-        return m;
-    }
-    best
+    if m.n < best.n { m } else { best }
 }
 
-// The smallest set of the k floaters that has too few positions. Where there is none, n is past k.
-pub fn smallest(tab: &[u8], k: usize) -> Set
+// The smallest set of the k floaters that has too few positions.
+pub fn smallest(tab: &[u8], k: usize) -> Option<Set>
     requires { Sized tab.now k }
-    ensures { Told (may_in tab.now) k result.n result.marks }
+    ensures { Told (may_in tab.now) k result }
 {
-    let m = Set {
+    let none = Set {
         n: 0,
-        marks: [0; Placement::COPIES],
+        marks: [false; Placement::COPIES],
     };
     let c = Cover {
         n: 0,
-        at: [0; Ledger::POSITIONS],
+        at: [false; Ledger::POSITIONS],
     };
-    let best = Set {
-        n: k + 1,
-        marks: [0; Placement::COPIES],
-    };
-    hunt(tab, k, 0, m, c, best)
+    // any set that has too few positions is smaller than this one
+    let best = Set { n: k + 1, ..none };
+    let s = hunt(tab, k, 0, none, &c, best);
+    if s.n <= k { Some(s) } else { None }
 }
 
-// The floaters of a set by their numbers, from 1, ascending; unused entries 0.
-#[derive(Drop)]
-pub struct Numbers {
-    pub n: usize,
-    pub at: [u8; Placement::COPIES],
-}
-
-// Those of the first k floaters that are in the set.
-fn members(s: Set, k: usize) -> Numbers
+// Those of the first k floaters that are in the set, by their numbers, from 1, ascending; unused entries 0.
+fn members(s: Set, k: usize) -> Why
     requires { k ≤ copy_limit }
-    ensures { Named (numbers_of (marked_in s.marks) k) result.n result.at }
+    ensures { Named (numbers_of (marked_in s.marks) k) result.count result.at }
 {
-    let mut m = Numbers {
-        n: 0,
+    let mut m = Why {
+        count: 0,
         at: [0; Placement::COPIES],
     };
-    let mut i: usize = 0;
-    while i < k {
-        if s.marks[i] == 1 {
-            m.at[m.n] = (i + 1) as u8;
-            m.n += 1;
+    for i in 0..k {
+        if s.marks[i] {
+            m.at[m.count] = (i + 1) as u8;
+            m.count += 1;
         }
-        i += 1;
     }
     m
 }
 
 // The smallest set of the k floaters that has too few positions, by their numbers; none where all of them can stand, which is found without trying sets.
-pub fn competing(tab: &[u8], k: usize) -> Numbers
+pub fn competing(tab: &[u8], k: usize) -> Why
     requires { Sized tab.now k }
-    ensures { Competing tab.now k result.n result.at }
+    ensures { Competing tab.now k result.count result.at }
 {
     let all = exchange::first(tab, k);
-    if all.ok {
-        return Numbers {
-            n: 0,
-            at: [0; Placement::COPIES],
-        };
+    if all.is_none() {
+        if let Some(s) = smallest(tab, k) {
+            return members(s, k);
+        }
     }
-    let s = smallest(tab, k);
-    members(s, k)
+    Why {
+        count: 0,
+        at: [0; Placement::COPIES],
+    }
 }

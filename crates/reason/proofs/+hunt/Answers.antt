@@ -9,7 +9,7 @@ use Rattle.reason.proofs.Laws.{count_top, hunt_prune, hunt_late, hunt_on, hunt_o
 use Rattle.reason.proofs.+hunt.Goals as goal
 
 pub overflow_add-c : goal.overflow_add-c
-overflow_add-c t c = omega (arith, c.requires.many, count_top position_limit (marked_in c.args.c.at))
+overflow_add-c t c = omega (arith, c.requires.many, count_top position_limit (marked_in c.args.c.now.at))
 
 pub returns-then-best-c : goal.returns-then-best-c
 returns-then-best-c t c = hunt_prune _ _ _ _ _ _ _ c.requires _ c.args.best.marks c.if-best-c.true
@@ -29,7 +29,7 @@ hunt-b-requires t c =
     let l = c.if-i-k.true in
     let long : length a.m.marks ≡ copy_limit = search rules in
     let has_mark : a.i < length a.m.marks = omega (arith, l, long, c.requires.sized.few) in
-    (omega (arith, c.decreases, l), hunt_on _ _ _ _ a.m.marks _ a.c.at c.requires l has_mark _ c.join-d.result.at c.join-d.ensures)
+    (omega (arith, c.decreases, l), hunt_on _ _ _ _ a.m.marks _ a.c.now.at c.requires l has_mark _ c.join-d.result.at c.join-d.ensures)
 
 pub hunt-requires : goal.hunt-requires
 hunt-requires t c =
@@ -37,7 +37,7 @@ hunt-requires t c =
     let l = c.if-i-k.true in
     let long : length a.m.marks ≡ copy_limit = search rules in
     let has_mark : a.i < length a.m.marks = omega (arith, l, long, c.requires.sized.few) in
-    (omega (arith, c.decreases, l), hunt_off _ _ _ _ a.m.marks _ a.c.at c.requires l has_mark)
+    (omega (arith, c.decreases, l), hunt_off _ _ _ _ a.m.marks _ a.c.now.at c.requires l has_mark)
 
 pub returns-then-i-k : goal.returns-then-i-k
 returns-then-i-k t c =
@@ -45,11 +45,11 @@ returns-then-i-k t c =
     let l = c.if-i-k.true in
     let long : length a.m.marks ≡ copy_limit = search rules in
     let has_mark : a.i < length a.m.marks = omega (arith, l, long, c.requires.sized.few) in
-    hunt_both _ _ _ _ a.m.marks _ a.c.at c.requires l has_mark _ a.best.marks _ c.hunt-b.result.marks _ c.hunt.result.marks c.hunt-b.ensures c.hunt.ensures
+    hunt_both _ _ _ _ a.m.marks _ a.c.now.at c.requires l has_mark _ a.best.marks _ c.hunt-b.result.marks _ c.hunt.result.marks c.hunt-b.ensures c.hunt.ensures
 
 pub returns-then-m-best : goal.returns-then-m-best
 returns-then-m-best t c =
     decided_yes _ _ _ _ _ _ _ c.requires c.if-i-k.false _ _ (omega (arith, c.if-m-k.false, c.if-i-k.false)) c.if-m-best.true
 
-pub returns : goal.returns
-returns t c = decided_no _ _ _ _ _ _ _ c.requires c.if-i-k.false _ _ c.if-m-best.false
+pub returns-else-m-best : goal.returns-else-m-best
+returns-else-m-best t c = decided_no _ _ _ _ _ _ _ c.requires c.if-i-k.false _ _ c.if-m-best.false

@@ -1,11 +1,7 @@
 -- `reason::members` meets its contract: so far the numbers of the members among the first i floaters stand at the front. Assumes nothing.
-use Prim.Native.Nat.{◌-◌}
 use Rattle.reason.specs.Smallest.{marked_in}
 use Rattle.reason.proofs.Names.{Naming}
 use Rattle.reason.proofs.members.Given as goal
 
 abbrev pub invariant-loop-i : goal.invariant-loop-i
-invariant-loop-i l = Naming (marked_in l.s.marks) l.k l.i l.m.n l.m.at
-
-abbrev pub decreases-loop-i : goal.decreases-loop-i
-decreases-loop-i l = l.k - l.i
+invariant-loop-i l = Naming (marked_in l.fn.s.marks) l.k l.i l.m.count l.m.at

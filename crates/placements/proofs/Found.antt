@@ -1,7 +1,7 @@
 -- What the search finds is the first placement, and the next one.
 use mathlib.Core.Path.{◌≡◌, sym, ap, ◌∙◌, subst}
 use mathlib.Core.Logic.{◌⊎◌, inl, inr, ⊎_elim}
-use mathlib.Core.Bool.{Bool, true, false}
+use mathlib.Core.Bool.{Bool, true}
 use mathlib.Core.List.{List, [], map}
 use Prim.Native.Nat.{ℕ, ◌≤◌, ◌+◌, ◌-◌}
 use native.Mathlib.Omega.{arith}
@@ -11,6 +11,8 @@ use Rattle.scope.specs.Limits.{copy_limit}
 use Rattle.scope.specs.Positions.{Floating, is_further}
 use Rattle.scope.specs.Placements.{less, first_placement, next_placement}
 use Rattle.areas.specs.Floats.{floating_in}
+use Rattle.std.specs.Prelude.{Option as Maybe, Some as Just, None as Nothing, IfSome}
+use Rattle.exchange.specs.declared.Standing.{Standing}
 use Rattle.exchange.specs.Order.{Next, IsFirst}
 use Rattle.exchange.specs.Table.{may_in, mark_in}
 use Rattle.basics.specs.Tests.{below?}
@@ -77,20 +79,21 @@ module _ (tab : List ℕ) (k : ℕ) (few : k ≤ copy_limit) where
         (rw (sym (entries_same k w few long b.d b.inside)) b.less))
 
   -- the least of all, whatever the marks
-  first_found_least : (b : Bool) (w : List ℕ) → length w ≡ copy_limit → IsFirst (may_in tab) k b (place w) → Least (Allowed (with_marks tab k [])) (found k b w)
-  first_found_least true w l h =
+  first_found_least : (o : Maybe Standing) → IfSome o (λ v. length v.at ≡ copy_limit) → IsFirst (may_in tab) k o → Least (Allowed (with_marks tab k [])) (found k o)
+  first_found_least (Just v) l h =
+      let w = v.at in
       let g = good_free (may_in tab) k (place w) h.0 in
       (right_allowed tab [] k few (entries k w) (right_entries [] w l g), λ q a. let r = allowed_right tab [] k few q a in upto_either [] w l g q r (h.1 (place q) r.good.full))
-  first_found_least false w l h = λ q a. h (place q) (allowed_right tab [] k few q a).good.full
+  first_found_least Nothing l h = λ q a. h (place q) (allowed_right tab [] k few q a).good.full
 
   module _ (copy : List ℕ) (ok : Orderly (floating_in tab copy k)) where
     abbrev f : Floating
     f = floating_in tab copy k
 
-    pub first_found : (b : Bool) (w : List ℕ) → length w ≡ copy_limit → IsFirst (may_in tab) k b (place w) → first_placement f ≡ found k b w
-    first_found b w l h =
+    pub first_found : (o : Maybe Standing) → IfSome o (λ v. length v.at ≡ copy_limit) → IsFirst (may_in tab) k o → first_placement f ≡ found k o
+    first_found o l h =
         first_as_before f ok
-        ∙ least_unique (Allowed (unmarked f)) (first_placement (unmarked f)) (found k b w) (first_least (unmarked f) (unmarked_orderly f ok)) (first_found_least b w l h)
+        ∙ least_unique (Allowed (unmarked f)) (first_placement (unmarked f)) (found k o) (first_least (unmarked f) (unmarked_orderly f ok)) (first_found_least o l h)
 
     abbrev ms : List Bool
     ms = map is_further (take k copy)
@@ -111,16 +114,17 @@ module _ (tab : List ℕ) (k : ℕ) (few : k ≤ copy_limit) where
           (λ s m. b.same s m ∙ entries_same k v few l s (omega (arith, b.inside)))
           (rw (entries_same k v few l b.d b.inside) at b.less)
 
-      next_found_least : (b : Bool) (v : List ℕ) → length v ≡ copy_limit → Next (may_in tab) (mark_in copy) k (place p) b (place v) → Least (Further f p) (found k b v)
-      next_found_least true v l h =
+      next_found_least : (o : Maybe Standing) → IfSome o (λ v. length v.at ≡ copy_limit) → Next (may_in tab) (mark_in copy) k (place p) o → Least (Further f p) (found k o)
+      next_found_least (Just u) l h =
+          let v = u.at in
           let g = good_of (may_in tab) copy k (place v) h.0 in (
             (right_allowed tab ms k few (entries k v) (right_entries ms v l g), before_entries v l h.1),
             λ q a.
                 let r = allowed_right tab ms k few q a.0 in
                 upto_either ms v l g q r (h.2 (place q) (good_in (may_in tab) copy k (place q) r.good) (above_before q r a.1)),
           )
-      next_found_least false v l h = λ q a.
+      next_found_least Nothing l h = λ q a.
           let r = allowed_right tab ms k few q a.0 in h (place q) (good_in (may_in tab) copy k (place q) r.good) (above_before q r a.1)
 
-      pub next_found : (b : Bool) (v : List ℕ) → length v ≡ copy_limit → Next (may_in tab) (mark_in copy) k (place p) b (place v) → next_placement f p ≡ found k b v
-      next_found b v l h = least_unique (Further f p) (next_placement f p) (found k b v) (next_least f ok p) (next_found_least b v l h)
+      pub next_found : (o : Maybe Standing) → IfSome o (λ v. length v.at ≡ copy_limit) → Next (may_in tab) (mark_in copy) k (place p) o → next_placement f p ≡ found k o
+      next_found o l h = least_unique (Further f p) (next_placement f p) (found k o) (next_least f ok p) (next_found_least o l h)

@@ -1,16 +1,17 @@
 -- What the steps of a request promise.
-use Rattle.std.specs.Prelude.{◌≡◌, Bool, true, false, List, ℕ, ◌<◌, ◌≤◌, ◌-◌, take}
+use Rattle.std.specs.Prelude.{◌≡◌, Bool, true, List, ℕ, ◌<◌, ◌≤◌, ◌-◌, take, Result, Option as Maybe, Some as Just, None as Nothing}
 use Rattle.std.proofs.Math.Option.{Option, none, some}
 use Rattle.scope.specs.declared.answers.Listing.{Listing}
 use Rattle.scope.specs.Limits.{copy_limit, position_limit}
 use Rattle.scope.specs.Lists.{padded}
-use Rattle.scope.specs.Answers.{Said, says_request, met, requested, moved_on}
+use Rattle.scope.specs.declared.refusals.Refusal.{Refusal}
+use Rattle.scope.specs.Answers.{Said, says, of_good, requested, moved}
 use Rattle.areas.specs.Floats.{floating_in}
 use Rattle.placement_laws.specs.Standing.{place, Full, Ascent}
 use Rattle.placement_laws.specs.Terms.{Orderly}
 use Rattle.exchange.specs.Order.{Verdict}
 use Rattle.exchange.specs.Table.{may_in, mark_in}
-use Rattle.placements.specs.declared.Next.{Next}
+use Rattle.exchange.specs.declared.Standing.{Standing}
 
 -- "unused ones 0"
 abbrev pub Zeros : ℕ → List ℕ → Type 0
@@ -43,15 +44,14 @@ abbrev pub entries : ℕ → List ℕ → List ℕ
 entries k w = padded 0 copy_limit (take k w)
 
 -- where they all stand, if that is so
-abbrev pub found : ℕ → Bool → List ℕ → Option (List ℕ)
-found k true w = some (entries k w)
-found k false w = none
+abbrev pub found : ℕ → Maybe Standing → Option (List ℕ)
+found k (Just w) = some (entries k w.at)
+found k Nothing = none
 
--- the answer to a request and the listing after it, by what is said of the request
-pub record Moves (a : Said (List ℕ)) (l : Listing) (r : Next) : Type 0 where
-  pub says : says_request r.request ≡ met a
-  pub listing_after_is : r.listing ≡ moved_on l a
+-- the answer to a request, by what is said of it: the listing after it
+abbrev pub Moves : Said (List ℕ) → Result Listing Refusal → Type 0
+Moves a r = says r ≡ of_good moved a
 
 -- that of a request to a listing marked fresh, whichever copies there are
-abbrev pub Begins : List ℕ → ℕ → Listing → Next → Type 0
-Begins tab k l r = (copy : List ℕ) → Orderly (floating_in tab copy k) → Moves (requested (floating_in tab copy k) l) l r
+abbrev pub Begins : List ℕ → ℕ → Listing → Result Listing Refusal → Type 0
+Begins tab k l r = (copy : List ℕ) → Orderly (floating_in tab copy k) → Moves (requested (floating_in tab copy k) l) r

@@ -7,7 +7,4 @@ use Rattle.exchange.specs.Table.{mark_in}
 use Rattle.placements.proofs.in_order.Given as goal
 
 abbrev pub invariant-loop-s : goal.invariant-loop-s
-invariant-loop-s l = (0 < l.s) × ((t : ℕ) → t < l.s → 0 < t → mark_in l.copy t ≡ true → place l.w.at (t - 1) < place l.w.at t)
-
-abbrev pub decreases-loop-s : goal.decreases-loop-s
-decreases-loop-s l = l.k - l.s
+invariant-loop-s l = (t : ℕ) → t < l.s → 0 < t → mark_in l.copy t ≡ true → place l.w.at (t - 1) < place l.w.at t

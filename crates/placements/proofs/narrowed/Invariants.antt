@@ -1,6 +1,5 @@
 -- `placements::narrowed` meets its contract: entries are put one by one over `Placement::none`. The loop's invariant: the first s are put, and zeros stand behind.
 use mathlib.Core.Path.{◌≡◌}
-use Prim.Native.Nat.{◌≤◌, ◌-◌}
 use lib.ListN.{length}
 use Rattle.scope.specs.Limits.{copy_limit}
 use Rattle.placement_laws.specs.Standing.{place, Same}
@@ -8,7 +7,4 @@ use Rattle.placements.specs.Steps.{Zeros}
 use Rattle.placements.proofs.narrowed.Given as goal
 
 abbrev pub invariant-loop-s : goal.invariant-loop-s
-invariant-loop-s l = (l.s ≤ l.k) × (length l.p.at ≡ copy_limit) × Same l.s (place l.w.at) (place l.p.at) × Zeros l.s l.p.at
-
-abbrev pub decreases-loop-s : goal.decreases-loop-s
-decreases-loop-s l = l.k - l.s
+invariant-loop-s l = (length l.p ≡ copy_limit) × Same l.s (place l.w.at) (place l.p) × Zeros l.s l.p

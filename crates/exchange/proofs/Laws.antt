@@ -11,10 +11,10 @@ use lib.Dec.{eqb, leb, ltb}
 use lib.ListN.{length, get_or, set}
 use lib.Seq.{get_or-set_same, get_or-set_other}
 use borrow.Author.Tests.{ltb-true, lt-ltb, leb-true, le-leb, lt-leb, eq-eqb, ne_eqb}
-use Rattle.scope.specs.Limits.{copy_limit, position_limit}
+use Rattle.scope.specs.Limits.{position_limit}
 use Rattle.placement_laws.specs.Standing.{place, Full, Same}
 use Rattle.placement_laws.specs.Where.{But, FreeBut, Grown}
-use Rattle.placement_laws.specs.Exchange.{Put, Shut, pigeon, grow_step, grow_start, stuck, shift_start, fill, full_but, take_over}
+use Rattle.placement_laws.specs.Exchange.{Put, Shut, pigeon, grow_step, stuck, shift_start, fill, full_but}
 use Rattle.exchange.specs.Order.{Verdict, Tried}
 use Rattle.exchange.proofs.Least.{same_more}
 use Rattle.areas.specs.Floats.{Sized}
@@ -149,21 +149,9 @@ pub record Searching (tab lows : List ℕ) (k f j : ℕ) (w : List ℕ) (n : ℕ
   pub shut : (a : ℕ) → a < h → Shut (may_from tab lows) k f j (place w) n (place order) (place order a)
 
 module _ (tab lows : List ℕ) (k f j : ℕ) (w : List ℕ) (ready : Augmentable tab lows k f j w) where
-  pub searching_start : (order parent : List ℕ) → place order 0 ≡ j → Searching tab lows k f j w 1 order parent 0
-  searching_start order parent e =
-      record {
-        inside =
-            omega arith;
-        grown = grow_start (may_from tab lows) k f j (place w) (place order) (place parent) e ready.low ready.high;
-        shut = λ a l. absurd (omega arith);
-      }
-
   module _ (n : ℕ) (order parent : List ℕ) (h : ℕ) (s : Searching tab lows k f j w n order parent h) where
     pub searching_few : n ≤ k
     searching_few = grown_le (may_from tab lows) k f j (place w) n (place order) (place parent) s.grown
-
-    pub searching_high : h < n → place order h < copy_limit
-    searching_high l = omega (arith, s.grown.high h l, ready.sized.few)
 
     pub searching_walk : h < n → Walkable n h order parent
     searching_walk l =
@@ -178,10 +166,6 @@ module _ (tab lows : List ℕ) (k f j : ℕ) (w : List ℕ) (ready : Augmentable
     pub searching_found : (x : ℕ) (r : List ℕ) → h < n → may_from tab lows (place order h) x ≡ true → FreeBut k j (place w) x → Shifted w n order parent h x r
         → Full (may_from tab lows) k (place r) × Same f (place w) (place r)
     searching_found x r l o c m = m (may_from tab lows) k f j s.grown (shift_start (may_from tab lows) k f j (place w) n (place order) h x ready.but l o c)
-
-    pub searching_growing : h < n → Growing tab lows k f h w n order parent
-    searching_growing l =
-        record { sized = ready.sized; grown = rw (sym s.grown.root) at s.grown; but = rw (sym s.grown.root) at ready.but; inside = l }
 
     pub searching_step : (n' : ℕ) (order' parent' : List ℕ) → h < n → Taken tab lows k j w (place order h) → Grew tab lows k f h w f k n order n' order' parent'
         → Searching tab lows k f j w n' order' parent' (h + 1)
@@ -221,15 +205,6 @@ module _ (tab lows : List ℕ) (k i y : ℕ) (w : List ℕ) (ready : ReadyFrom t
     attempt_free h =
         (fill (may_from tab lows) k i y (place w) (place (set w i y)) (full_but (may_from tab lows) k i (place w) ready.full) o (λ s m n e. h s m n e) put, below, put.here)
 
-    pub attempt_over : (t : ℕ) → Owner w k i y t → i ≤ t → Augmentable tab lows k (i + 1) t (set w i y)
-    attempt_over t h l =
-        record {
-          sized = ready.sized;
-          low = let n = h.other in omega (arith, n);
-          high = h.inside;
-          but = take_over (may_from tab lows) k i t y (place w) (place (set w i y)) ready.full ready.inside h.inside h.other o h.stands put;
-        }
-
     pub attempt_augmented : (r : Option Standing) → Augmented tab lows k (i + 1) (set w i y) r → Tried (may_from tab lows) k i y (place w) r
     attempt_augmented (Some v) a = (a.0, (λ s l. below s l ∙ a.1 s (omega arith)), sym (a.1 i (omega arith)) ∙ put.here)
     attempt_augmented None a = λ u f s e. a u f (same_more i (place (set w i y)) u (λ q l. sym (below q l) ∙ s q l) (put.here ∙ sym e))
@@ -241,9 +216,6 @@ attempt_not tab lows k i y w l n u f s e = true≢false (sym (rw e at (f.fits i 
 -- ---- the first
 pub full_small : (tab : List ℕ) (k s : ℕ) (w : ℕ → ℕ) → Full (may_in tab) k w → s < k → w s < position_limit
 full_small tab k s w f l = ok_small tab s (w s) (f.fits s l)
-
-pub full_none : (ok : ℕ → ℕ → Bool) (w : ℕ → ℕ) → Full ok 0 w
-full_none ok w = record { fits = λ s l. absurd (omega arith); apart = λ s t l m e. absurd (omega arith) }
 
 pub full_less : (ok : ℕ → ℕ → Bool) (k m : ℕ) (w : ℕ → ℕ) → m ≤ k → Full ok k w → Full ok m w
 full_less ok k m w l f = record { fits = λ s h. f.fits s (omega arith); apart = λ s t a b e. f.apart s t (omega arith) (omega arith) e }

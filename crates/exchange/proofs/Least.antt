@@ -46,9 +46,6 @@ module _ (ok : ℕ → ℕ → Bool) (k : ℕ) where
     pub same : Same from w v
     pub least : (u : ℕ → ℕ) → Full ok k u → Same from w u → Upto i v u
 
-  pub settle_start : (from : ℕ) (w : ℕ → ℕ) → Full ok k w → Settling from from w w
-  settle_start from w f = record { full = f; same = λ s l. refl; least = λ u g s. inl s }
-
   pub settle_step : (from i : ℕ) (w v v' : ℕ → ℕ) → from ≤ i → Settling from i w v → Full ok k v' → Same i v v'
       → ((u : ℕ → ℕ) → Full ok k u → Same i v u → v' i ≤ u i) → Settling from (i + 1) w v'
   settle_step from i w v v' l h f s m = record { full = f; same = λ t g. h.same t g ∙ s t (omega arith); least = least }

@@ -15,7 +15,7 @@ use Rattle.placement_laws.specs.Standing.{place, Full, Ascent, Good, Alike, Upto
 use Rattle.placement_laws.specs.Swaps.{Swapped, swap_same, swap_least}
 use Rattle.placement_laws.specs.Where.{But}
 use Rattle.exchange.specs.Order.{Settled}
-use Rattle.exchange.specs.Table.{may_in, may_from, FirstOf, Lowest, RaisedTo, Raised}
+use Rattle.exchange.specs.Table.{may_in, may_from, Lowest, RaisedTo, Raised}
 use Rattle.exchange.proofs.Least.{Above}
 use Rattle.exchange.proofs.Laws.{put_set, from_parts, parts_from}
 
@@ -29,12 +29,6 @@ full_from tab lows k u h f = record { fits = λ s l. parts_from tab lows s (u s)
 -- no floater stands below the first of its positions
 pub lowest_from : (tab lows : List ℕ) (k : ℕ) (u : ℕ → ℕ) → Lowest tab k lows → Full (may_in tab) k u → Full (may_from tab lows) k u
 lowest_from tab lows k u h f = full_from tab lows k u (λ s l. h s (u s) l (f.fits s l)) f
-
-pub lowest_more : (tab : List ℕ) (s r : ℕ) (lows : List ℕ) → s < length lows → Lowest tab s lows → FirstOf tab s r → Lowest tab (s + 1) (set lows s r)
-lowest_more tab s r lows l h f t x m o =
-    let p = put_set lows s r l in
-    ⊎_elim (λ (e : t ≡ s). subst (λ z. place (set lows s r) z ≤ x) (sym e) (rw p.here (f x (subst (λ z. may_in tab z x ≡ true) e o))))
-    (λ n. rw (p.else t n) (h t x (omega arith) o)) (same? t s)
 
 -- ---- least positions raised one by one
 pub raised_start : (mark : ℕ → Bool) (k i low : ℕ) (old : List ℕ) → i < k → i < length old → RaisedTo mark k i low (i + 1) old (set old i low)

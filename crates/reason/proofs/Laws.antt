@@ -223,9 +223,6 @@ pub record Joining (tab : List ℕ) (i x : ℕ) (cover : List Bool) (c : ℕ) (a
   pub left : (y : ℕ) → x ≤ y → marked_in at y ≡ marked_in cover y
   pub many : c ≡ count position_limit (marked_in at)
 
-pub join_start : (tab : List ℕ) (i c : ℕ) (cover : List Bool) → c ≡ count position_limit (marked_in cover) → Joining tab i 0 cover c cover
-join_start tab i c cover e = record { done = λ y l. absurd (omega arith); left = λ y l. refl; many = e }
-
 module _ (tab : List ℕ) (i x : ℕ) (cover : List Bool) (c : ℕ) (at : List Bool) (j : Joining tab i x cover c at) where
   -- a turn that changes x alone
   turn : (c' : ℕ) (at' : List Bool) → ((y : ℕ) → (y ≡ x → ⊥) → marked_in at' y ≡ marked_in at y) → marked_in at' x ≡ (marked_in at x || may_in tab i x) → c' ≡ count position_limit (marked_in at')
@@ -255,9 +252,6 @@ module _ (tab : List ℕ) (i x : ℕ) (cover : List Bool) (c : ℕ) (at : List B
 
       else : (y : ℕ) → (y ≡ x → ⊥) → marked_in (set at x true) y ≡ marked_in at y
       else y d = get_or-set_other at x y true false d
-
-  pub join_end : position_limit ≤ x → Joined tab i cover c at
-  join_end l = record { all = λ y m. j.done y (omega arith); many = j.many }
 
 -- ---- the start and the end
 pub hunt_start : (tab : List ℕ) (k : ℕ) (marks cover : List Bool) → Sized tab k → ((x : ℕ) → x < position_limit → get_or cover x false ≡ false) → Hunting tab k 0 0 marks 0 cover

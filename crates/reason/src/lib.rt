@@ -13,14 +13,14 @@ ghost use Rattle.reason.specs.Named.{numbers_of, Named, Competing};
 
 use scope::answers::{Ledger, Placement, Why};
 
-// A set of floaters: how many, and which.
+// A set of floaters: how many, and which. The number is kept, so that no step of the search counts anew.
 #[derive(Clone, Copy, Debug, PartialEq, Eq)]
 pub struct Set {
     pub n: usize,
     pub marks: [bool; Placement::COPIES],
 }
 
-// The positions of a set: how many, and which.
+// The positions of a set: how many, and which. The number is kept here too.
 #[derive(Clone, Copy)]
 struct Cover {
     n: usize,

@@ -18,7 +18,7 @@ use Rattle.scope.specs.Layout.{residue_in, place_in, bracket_in, tables_in, lett
 use Rattle.scope.specs.Positions.{sites, names, reached}
 use Rattle.basics.specs.Positions.{sites_in, first_site, residue_site, last_site}
 use Rattle.basics.specs.Tabled.{tabled_at, tabled_end, tabled_all, get_d_tabled, residues_many}
-use Rattle.brackets.specs.Row.{Row, Position}
+use Rattle.brackets.specs.Row.{Row}
 use Rattle.brackets.specs.Reached.{ReachedPut}
 
 abbrev sites_of : List (Place (Unit {0})) → List ℕ
@@ -122,9 +122,6 @@ reaching_start {bs} {k} {n} r few e p =
     }
 
 module _ {bs : List ℕ} {k end x : ℕ} {P : List ℕ → Type 0} (i : Naming bs k end x P) where
-  pub reaching_asks : x < end → Row bs k × Position bs x
-  reaching_asks h = (i.row, record { room = i.row.room; few_residues = i.few; inside = omega (arith, i.end_is) })
-
   -- which are left, by whether x is named
   more : x < end → (t : Bool) (ns : List ℤ) → t ≡ names (tables_in bs ns) (bracket_in bs ns k).places x
       → reached (tables_in bs ns) (bracket_in bs ns k)

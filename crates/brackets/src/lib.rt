@@ -193,7 +193,7 @@ pub fn names(bytes: &[u8], k: usize, x: usize) -> bool
     is_named(bytes, k, site_at(bytes, x))
 }
 
-// How many positions they name.
+// How many positions they name: what put_reached writes, where there is no room to write to.
 pub fn reached(bytes: &[u8], k: usize) -> usize
     requires { (Row bytes.now k) × (residues_field bytes.now ≤ residue_limit) }
     ensures { ((ns : List ℤ) → result ≡ length (reached (tables_in bytes.now ns) (bracket_in bytes.now ns k))) × (result ≤ position_limit) }

@@ -37,7 +37,6 @@ use Rattle.masses.proofs.TallyLaws.{mass_small, few_copies}
 use Rattle.basics.specs.Choice.{by_test, branch, pick_true, pick_false}
 use Rattle.basics.specs.Positions.{placed_on_lem}
 use Rattle.basics.specs.Tests.{and_left, and_right, eqb_sym}
-use Rattle.brackets.specs.Row.{Row, Position}
 use Rattle.brackets.specs.Reached.{reached_in, next_test, next_unnamed}
 
 -- a small mass, where a test says so
@@ -139,14 +138,8 @@ module _ {bs : List ℕ} {k end : ℕ} {m : ℤ} {x : ℕ} {l₀ l : List ℤ} (
             ));
       }
 
-  pub naming_asks : x < end → Row bs k × Position bs x
-  naming_asks h = (s.can.row, record { room = s.can.row.room; few_residues = s.can.few_residues; inside = omega (arith, s.end_is) })
-
   pub naming_low : x < end → x < position_limit
   naming_low h = omega (arith, s.end_is, s.can.few_residues)
-
-  pub naming_fits : CanBook l x m
-  naming_fits h = omega (arith, naming_held.small x h, s.can.small, s.can.row.inside)
 
   module _ {z : Bool} (h : x < end) (named : (ns : List ℤ) → z ≡ names (tables_in bs ns) (bracket_in bs ns k).places x) where
     pub naming_one : {l' : List ℤ} → z ≡ true → l' ≡ booked l x m → BookingNamed bs k end m (x + 1) l₀ l'
@@ -272,9 +265,6 @@ placing_start {bs} {ns} {n} b e =
     }
 
 module _ {bs : List ℕ} {ns : List ℤ} {n k : ℕ} {l : List ℤ} (i : BookingPlaced bs ns n k l) where
-  pub placing_asks : k < n → CanPlace bs ns k l
-  placing_asks h = record { reach = record { bounds = i.bounds; inside = rw (← i.many) h }; held = i.held }
-
   placing_few : n ≤ bracket_limit
   placing_few = omega (arith, i.many, i.bounds.few_brackets_lem)
 
@@ -397,10 +387,6 @@ module _ {l₀ : List ℤ} {at : List ℕ} {i c : ℕ} {m : ℤ} {end j : ℕ} {
             ∙ ap (λ z. get_or l x (pos 0) +ℤ z) (ap (λ z. z +ℤ left b fs x) (share_else y m x (λ z. omega arith)) ∙ +ℤ_idl (left b fs x));
       }
 
-  -- as a booking asks it, and gives it
-  pub putting_asks : {y : ℕ} → j < end → CanBook l y m
-  putting_asks {y} h r = omega (arith, s.held.small y r, s.small, putting_few h)
-
   pub putting_again : {y : ℕ} {l' : List ℤ} → j < end → y ≡ get_or at j 0 → l' ≡ booked l y m → Putting l₀ at i c m end (j + 1) l'
   putting_again {y} {l'} h e g =
       by_test (ltb y position_limit)
@@ -448,14 +434,6 @@ few_floating {bs} {ns} {k} r =
     few_by (is_modification (bracket_in bs ns k)) (is_labelled (bracket_in bs ns k)) (bracket_in bs ns k).kind (bracket_in bs ns k).count (few_copies r)
 
 module _ {bs : List ℕ} {ns : List ℤ} {k i : ℕ} {l : List ℤ} (p : CanFloat bs ns k l i) where
-  pub float_none : {at : List ℕ} {m : ℤ} {c : ℕ} → c ≡ copies (bracket_in bs ns k) → c ≡ 0 → CopiesPut l l at i (copies (bracket_in bs ns k)) m i
-  float_none {at} {m} {c} e z =
-      record {
-        held = p.held;
-        few = p.few;
-        entry = λ b q fs x r. ap (λ n. get_or l x (pos 0) +ℤ put_at x (replicate n b ++ fs) (drop i at)) (sym e ∙ z);
-      }
-
   pub float_asks : {c : ℕ} {m m' : ℤ} → c ≡ copies (bracket_in bs ns k) → m ≡ mass_or0 (bracket_in bs ns k) → m' ≡ m → CanPut l i c m'
   float_asks e f read =
       record {
@@ -464,10 +442,6 @@ module _ {bs : List ℕ} {ns : List ℤ} {k i : ℕ} {l : List ℤ} (p : CanFloa
         count = rw e (few_floating p.reach);
         small = rw (read, f) (mass_small p.reach);
       }
-
-  pub float_gives : {l' : List ℤ} {at : List ℕ} {c r : ℕ} {m m' : ℤ} → c ≡ copies (bracket_in bs ns k) → m ≡ mass_or0 (bracket_in bs ns k) → m' ≡ m → CopiesPut l l' at i c m' r
-      → CopiesPut l l' at i (copies (bracket_in bs ns k)) (mass_or0 (bracket_in bs ns k)) r
-  float_gives {l'} {at} {c} {r} {m} {m'} e f read s = subst (λ z. CopiesPut l l' at i (copies (bracket_in bs ns k)) z r) (read ∙ f) (subst (λ n. CopiesPut l l' at i n m' r) e s)
 
 -- ---- the copies of all brackets: those of the brackets before k are put, i in number
 abbrev floating : List (Bracket (Unit {0})) → List (Bracket (Unit {0}))
@@ -503,9 +477,6 @@ floating_start {bs} {ns} {at} {n} {l} b p e =
     }
 
 module _ {bs : List ℕ} {ns : List ℤ} {at : List ℕ} {n k : ℕ} {l : List ℤ} {i : ℕ} (s : BookingFloaters bs ns at n k l i) where
-  pub floating_asks : k < n → CanFloat bs ns k l i
-  floating_asks h = record { reach = record { bounds = s.bounds; inside = rw (← s.many) h }; held = s.held; few = s.few }
-
   pub floating_next : {l' : List ℤ} {r : ℕ} → k < n → CopiesPut l l' at i (copies (bracket_in bs ns k)) (mass_or0 (bracket_in bs ns k)) r → BookingFloaters bs ns at n (k + 1) l' r
   floating_next {l'} {r} h p =
       record {

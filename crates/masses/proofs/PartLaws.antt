@@ -196,9 +196,6 @@ module _ (b : Bracket (Unit {0})) {r : Mass} (e : r ≡ mass_of b) where
   pub is_unstated : ((x : ℤ) × (r ≡ Measured x)) ⊎ (r ≡ None) → stated (mass_of b) ≡ none
   is_unstated o = ap stated (sym e) ∙ unstated r o
 
-  pub unstated_is_0 : ((x : ℤ) × (r ≡ Measured x)) ⊎ (r ≡ None) → pos 0 ≡ mass_or0 b
-  unstated_is_0 o = ap (λ x. given x (λ z. z) (pos 0)) (sym (is_unstated o))
-
 -- ---- what the bounds give where a bracket or a part of it is read
 module _ {bs : List ℕ} {ns : List ℤ} {k : ℕ} where
   pub reach_row : Reach bs ns k → Row bs k

@@ -193,9 +193,6 @@ module _ {bs : List ℕ} {ns : List ℤ} {n k : ℕ} {s : ℤ} {w : ℕ} (i : We
   pub weighing_reach : k < n → Reach bs ns k
   weighing_reach h = record { bounds = i.bounds; inside = rw (← i.many) h }
 
-  pub weighing_asks : k < n → CanTally bs ns k s w
-  weighing_asks h = record { reach = weighing_reach h; before = i.before }
-
   pub weighing_next : {s' : ℤ} {w' : ℕ} → k < n → Tallied (tables_in bs ns) (bracket_in bs ns k) s w s' w' → Weighing bs ns n (k + 1) s' w'
   unfolding sum sumℕ
   weighing_next {s'} {w'} h t =

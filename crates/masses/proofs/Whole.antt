@@ -44,9 +44,6 @@ module _ (m : ℤ) (d : ℕ) (small : nat_abs m < mass_limit) {u : ℕ} (e : u �
   unit_small : u < 2 ^ 63
   unit_small = rw e (omega (arith, power_few decimal_limit d))
 
-  pub can_cast : SFits w64 (pos u)
-  can_cast = record { sfits = unit_small }
-
   unit_back : to_z w64 u ≡ pos (10 ^ (decimal_limit - d))
   unit_back = to_z_pos w64 u unit_small ∙ ap pos e
 
@@ -64,9 +61,6 @@ module _ (m : ℤ) (d : ℕ) (small : nat_abs m < mass_limit) {u : ℕ} (e : u �
 
   product_small : nat_abs (quot_z m (pos (10 ^ (decimal_limit - d))) *ℤ pos (10 ^ (decimal_limit - d))) < 2 ^ 63
   product_small = omega (arith, abs_cut m (10 ^ (decimal_limit - d)))
-
-  pub can_multiply : SFits w64 (to_z w64 (of_z w64 (quot_z (to_z w64 (of_z w64 m)) (to_z w64 u))) *ℤ to_z w64 u)
-  can_multiply = rw (quot_back, unit_back) (abs_fits (quot_z m (pos (10 ^ (decimal_limit - d))) *ℤ pos (10 ^ (decimal_limit - d))) product_small)
 
   pub to_decimals_is : to_z w64 (of_z w64 (to_z w64 (of_z w64 (quot_z (to_z w64 (of_z w64 m)) (to_z w64 u))) *ℤ to_z w64 u)) ≡ millionths (number_in m d)
   to_decimals_is =

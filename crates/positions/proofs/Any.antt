@@ -41,20 +41,6 @@ pub record Unfound (m j : ℕ) (q : List ℤ → ℕ → Bool) : Type 0 where
   pub within : j ≤ m
   pub none : (ns : List ℤ) (i : ℕ) → i < j → q ns i ≡ false
 
-pub unfound_start : (m : ℕ) (q : List ℤ → ℕ → Bool) → Unfound m 0 q
-unfound_start m q = record { within = omega arith; none = λ ns i h. absurd (omega arith) }
-
-pub unfound_next : {m j : ℕ} {q : List ℤ → ℕ → Bool} {b : Bool} → Unfound m j q → j < m → ((ns : List ℤ) → b ≡ q ns j) → b ≡ false → Unfound m (j + 1) q
-unfound_next {m} {j} {q} u h e f =
-    record {
-      within = omega arith;
-      none =
-          λ ns i l. by_test (eqb i j) (λ t. ap (q ns) (eqb-true i j t) ∙ sym (e ns) ∙ f)
-          (λ t.
-          let ne : i ≡ j → ⊥ = eqb-false i j t in
-          u.none ns i (omega arith));
-    }
-
 pub found : {m j : ℕ} {q : List ℤ → ℕ → Bool} {b : Bool} → Unfound m j q → j < m → ((ns : List ℤ) → b ≡ q ns j) → b ≡ true → (ns : List ℤ) → true ≡ any_of (q ns) 0 m
 found {m} {j} {q} u h e f ns = sym (any_some (q ns) 0 m j (omega arith) (omega arith) (sym (e ns) ∙ f))
 

@@ -1,30 +1,29 @@
 -- Laws of marking positions in a row of the table. Assumes nothing.
 use mathlib.Core.Path.{◌≡◌, refl, sym, ap, ◌∙◌, subst}
-use mathlib.Core.Bool.{Bool, true, false, not, cond, ◌&&◌, ◌||◌, and-true, and-false}
+use mathlib.Core.Bool.{Bool, true, false, not, cond, ◌&&◌, ◌||◌}
 use mathlib.Core.List.{List, []}
 use Prim.Native.Nat.{ℕ, zero, suc, ◌+◌, ◌-◌, ◌≤◌, ◌<◌}
 use native.Mathlib.Nat.{zero-add}
 use native.Mathlib.Numerals.{add-one}
 use native.Mathlib.Omega.{arith}
-use borrow.Author.Tests.{eq-eqb, ne_eqb, eqb-true, eqb-false, leb-true, leb-false, le-leb, lt-ltb, le-ltb}
+use borrow.Author.Tests.{eq-eqb, ne_eqb, eqb-true, eqb-false, leb-true, leb-false, lt-ltb, le-ltb}
 use lib.Dec.{eqb, leb, ltb}
 use lib.IntN.{ℤ}
 use lib.ListN.{length, get_or, set, replicate, length-set, get_or-replicate}
 use lib.Seq.{get_or-set_same, get_or-set_other}
 use Rattle.scope.specs.declared.grammar.Kind.{Kind}
-use Rattle.scope.specs.Kinds.{is_unknown, is_declared, unknown_or_labile}
+use Rattle.scope.specs.Kinds.{is_declared, unknown_or_labile}
 use Rattle.scope.specs.Limits.{residue_limit, position_limit}
 use Rattle.scope.specs.Line.{Bracket}
 use Rattle.scope.specs.Lists.{flat, shared, tabled, member}
-use Rattle.scope.specs.Modifications.{is_modification, is_labelled, defined_by, referred_by}
-use Rattle.scope.specs.Layout.{bytes_size, bracket_in, tables_in, brackets_field, residues_field}
+use Rattle.scope.specs.Modifications.{is_modification, defined_by, referred_by}
+use Rattle.scope.specs.Layout.{bracket_in, tables_in, brackets_field, residues_field}
 use Rattle.scope.specs.Tables.{Tables}
 use Rattle.scope.specs.Positions.{names, is_placed, placed_on, struck_out, between, referred_at, is_unlabelled_unknown, may_stand}
 use Rattle.basics.specs.Choice.{by_test, pick_true, pick_false}
 use Rattle.basics.specs.Members.{member_append}
 use Rattle.basics.specs.Positions.{placed_on_lem}
 use Rattle.basics.specs.Tabled.{length_tabled}
-use Rattle.brackets.specs.Row.{Position}
 use Rattle.brackets.specs.Reached.{reached_in, next_test, next_unnamed}
 use Rattle.positions.specs.Marked.{RowSet, RowIs, always, held_in, refers_at, references_at, own_at, reached_at, placed_at, struck_at, FreeIs}
 use Rattle.positions.proofs.Any.{any_of, any_last}
@@ -92,25 +91,6 @@ pub record Spread (base a e : ℕ) (v : ℕ → ℕ) (x : ℕ) (old cur : List �
 not_yet : (a x y : ℕ) → x ≤ a → (leb a y && ltb y x) ≡ false
 not_yet a x y h = by_test (leb a y) (λ t. ap (λ s. s && ltb y x) t ∙ le-ltb y x (omega (arith, leb-true a y t))) (λ t. ap (λ s. s && ltb y x) t)
 
-pub spread_start : {base a e : ℕ} {v : ℕ → ℕ} {old : List ℕ} → base + position_limit ≤ length old → Spread base a e v a old old
-spread_start {base} {a} {e} {v} {old} h =
-    record { low = omega arith; high = omega arith; room = h; marked = marked_none base v (λ y. leb a y && ltb y a) old (λ y l. not_yet a a y (omega arith)) }
-
-pub spread_next : {base a e : ℕ} {v : ℕ → ℕ} {x : ℕ} {old cur : List ℕ} → Spread base a e v x old cur → e < position_limit → x ≤ e → Spread base a e v (x + 1) old (set cur (base + x) (v x))
-spread_next {base} {a} {e} {v} {x} {old} {cur} s h l =
-    let lo : a ≤ x = s.low in
-    let hi : x ≤ e + 1 + (a - (e + 1)) = s.high in
-    let rm : base + position_limit ≤ length cur = s.room in
-    record {
-      low = omega arith;
-      high = omega arith;
-      room = omega (arith, length-set cur (base + x) (v x));
-      marked =
-          marked_set (λ y. leb a y && ltb y (x + 1)) s.marked (omega arith) rm
-          (ap (λ t. t && ltb x (x + 1)) (le-leb a x lo) ∙ lt-ltb x (x + 1) (omega arith))
-          (λ y i ne. ap (λ t. leb a y && t) (next_test x y ne));
-    }
-
 all_of_them : (a e x y : ℕ) → a ≤ x → x ≤ e + 1 + (a - (e + 1)) → e < x → (leb a y && leb y e) ≡ (leb a y && ltb y x)
 all_of_them a e x y lo hi h =
     by_test (leb a y) (λ t. ap (λ s. s && leb y e) t ∙ inner (leb-true a y t) ∙ sym (ap (λ s. s && ltb y x) t))
@@ -120,9 +100,6 @@ all_of_them a e x y lo hi h =
     inner l =
         by_test (leb y e) (λ t. t ∙ sym (lt-ltb y x (let f : y ≤ e = leb-true y e t in omega arith)))
         (λ t. t ∙ sym (le-ltb y x (let f : e < y = leb-false y e t in omega arith)))
-
-pub spread_end : {base a e : ℕ} {v : ℕ → ℕ} {x : ℕ} {old cur : List ℕ} → Spread base a e v x old cur → e < x → RowSet base (between a e) v old cur
-spread_end {base} {a} {e} {v} {x} {old} {cur} s h = marked_as (between a e) s.marked (λ y l. all_of_them a e x y s.low s.high h)
 
 -- ---- a marking for each of b brackets, one after the other: those before k are done
 pub record MarksPassed (base : ℕ) (v : ℕ → ℕ) (b k : ℕ) (q : List ℤ → ℕ → ℕ → Bool) (old cur : List ℕ) : Type 0 where
@@ -174,23 +151,7 @@ pub record Striking (bs : List ℕ) (k end x : ℕ) (old cur : List ℕ) : Type 
   pub kept : length cur ≡ length old
   pub marked : (ns : List ℤ) → RowSet 0 (λ y. ltb y x && names (tables_in bs ns) (bracket_in bs ns k).places y) (always 0) old cur
 
-pub striking_start : {bs : List ℕ} {k n : ℕ} {old : List ℕ} → n ≡ residues_field bs → residues_field bs ≤ residue_limit → position_limit ≤ length old → Striking bs k (n + 2) 0 old old
-striking_start {bs} {k} {n} {old} e few room =
-    record {
-      end_is = omega arith;
-      few = few;
-      inside = omega arith;
-      room = room;
-      kept = refl;
-      marked =
-          λ ns. marked_none 0 (always 0) (λ y. ltb y 0 && names (tables_in bs ns) (bracket_in bs ns k).places y) old
-          (λ y l. ap (λ t. t && names (tables_in bs ns) (bracket_in bs ns k).places y) (le-ltb y 0 (omega arith)));
-    }
-
 module _ {bs : List ℕ} {k end x : ℕ} {old cur : List ℕ} (s : Striking bs k end x old cur) (h : x < end) where
-  pub striking_position : bytes_size ≤ length bs → Position bs x
-  striking_position room = record { room = room; few_residues = s.few; inside = omega (arith, s.end_is) }
-
   pub striking_low : x < position_limit
   striking_low = omega (arith, s.end_is, s.few)
 
@@ -290,19 +251,6 @@ pub free_is : (bs : List ℕ) (ns : List ℤ) {row : List ℕ} → RowSet 0 (str
 free_is bs ns {row} m x h =
     ap (held_in row) (sym (zero-add x)) ∙ m.inside x h
     ∙ ap (λ n. cond (struck_at bs ns x) 0 n) (ap (held_in (replicate position_limit 1)) (zero-add x) ∙ get_or-replicate position_limit x 1 0 h)
-
--- ---- which positions a floater has
-module _ (bs : List ℕ) (k : ℕ) {l : Bool} (labelled : (ns : List ℤ) → l ≡ is_labelled (bracket_in bs ns k)) where
-  pub not_anywhere : l ≡ true → (ns : List ℤ) → false ≡ is_unlabelled_unknown (bracket_in bs ns k) (bracket_in bs ns k).kind
-  not_anywhere t ns =
-      sym
-      (ap (λ s. is_unknown (bracket_in bs ns k).kind && not s) (sym (labelled ns) ∙ t) ∙ and-false (is_unknown (bracket_in bs ns k).kind))
-
-  pub anywhere_by_kind : {r : Bool} {c : Kind} → l ≡ false → ((ns : List ℤ) → c ≡ (bracket_in bs ns k).kind) → r ≡ is_unknown c → (ns : List ℤ) → r ≡ is_unlabelled_unknown (bracket_in bs ns k) (bracket_in bs ns k).kind
-  anywhere_by_kind t g h ns =
-      h ∙ ap is_unknown (g ns)
-      ∙ sym
-      (ap (λ s. is_unknown (bracket_in bs ns k).kind && not s) (sym (labelled ns) ∙ t) ∙ and-true (is_unknown (bracket_in bs ns k).kind))
 
 module _ (bs : List ℕ) (k : ℕ) {base : ℕ} {v : ℕ → ℕ} {old : List ℕ} {z : Bool} {c : Kind} (kind : (ns : List ℤ) → c ≡ (bracket_in bs ns k).kind) (place : z ≡ not (unknown_or_labile c)) where
   pub own_marked : {a e : ℕ} {cur : List ℕ} → z ≡ true → RowSet base (between a e) v old cur → ((ns : List ℤ) → a ≡ (bracket_in bs ns k).first) → ((ns : List ℤ) → e ≡ (bracket_in bs ns k).last) → (ns : List ℤ) → RowSet base (own_at bs ns k) v old cur

@@ -1,4 +1,5 @@
 // The row of one floater in the table: ranges of positions are marked, but those with a placed modification, struck out beforehand, are not free.
+// A mark is a byte, 0 or 1, as the table is lent as bytes, and so are the free positions that are copied into it.
 ghost use Rattle.std.specs.Prelude.{◌≡◌, true, not, List, ◌+◌, ◌<◌, ◌≤◌, ℤ, length};
 ghost use Rattle.scope.specs.Kinds.{unknown_or_labile};
 ghost use Rattle.scope.specs.Limits.{position_limit};

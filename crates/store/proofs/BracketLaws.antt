@@ -6,7 +6,7 @@ use Prim.Native.Nat.{ℕ, ◌+◌, ◌≤◌, ◌<◌}
 use native.Mathlib.Omega.{arith}
 use lib.IntN.{ℤ, pos}
 use lib.ListN.{length, get_or, take, set, length-append}
-use lib.Seq.{sets, length-sets, take_all}
+use lib.Seq.{sets, take_all}
 use Rattle.scope.specs.Limits.{part_limit}
 use Rattle.scope.specs.Line.{Place, Part, Bracket}
 use Rattle.scope.specs.Lists.{flat}
@@ -23,8 +23,8 @@ use Rattle.store.proofs.AreaLaws.{areas_as, head_more, bracket_more, no_brackets
 use Rattle.store.proofs.Passed.{passed, passed_next}
 
 module _ {line heads parts : List ℕ} {masses scores : List ℤ} {k t : ℕ} {bytes : List ℕ} {numbers : List ℤ} where
-  pub some_head : SomeBracketFits line heads parts masses scores k t bytes numbers → HeadGoesIn heads k bytes
-  some_head s = let f = s.fits in head_fits f.noted f.few_residues f.few_brackets_lem f.bytes_long
+  pub some_head : SomeBracketFits line heads parts masses scores k t bytes numbers → HeadGoesIn heads k
+  some_head s = let f = s.fits in head_fits f.noted f.few_residues f.few_brackets_lem
 
   module _ {m n : ℕ} {bytes₁ : List ℕ} (em : m ≡ base_field heads k) (en : n ≡ parts_field heads k) (e : bytes₁ ≡ sets bytes (row_at k) (head_from heads k)) where
     parts_fit : {b : Bracket ℕ} {a : Pieces} → BracketGoesIn line heads parts masses scores k t b a bytes numbers
@@ -39,25 +39,23 @@ module _ {line heads parts : List ℕ} {masses scores : List ℤ} {k t : ℕ} {b
           few_brackets_lem = f.few_brackets_lem;
           few_parts_lem = omega (arith, en, parts_many q, q.within.few_parts_lem);
           texts_room = f.texts_room;
-          bytes_long = omega (arith, f.bytes_long, ap length e, length-sets bytes (row_at k) (head_from heads k));
-          numbers_long = f.numbers_long;
           areas_are = head_more b f.areas_are f.few_brackets_lem (e ∙ ap (sets bytes (row_at k)) (head_noted q));
         }
 
     pub some_parts : SomeBracketFits line heads parts masses scores k t bytes numbers → SomePartsFit line parts masses m n k t bytes₁ numbers
     some_parts s = record { these = s.this.parts; pieces = head_added (head_of s.this) s.pieces; fit = parts_fit s.fits }
 
-    module _ {at many : ℕ} {bytes₂ : List ℕ} (ea : at ≡ places_field heads k) (eh : many ≡ many_field heads k) (el : length bytes₂ ≡ length bytes₁) where
-      places_behind : {b : Bracket ℕ} {a : Pieces} → BracketGoesIn line heads parts masses scores k t b a bytes numbers → PlacesFit line at many k b.places bytes₂
+    module _ {at many : ℕ} (ea : at ≡ places_field heads k) (eh : many ≡ many_field heads k) where
+      places_behind : {b : Bracket ℕ} {a : Pieces} → BracketGoesIn line heads parts masses scores k t b a bytes numbers → PlacesFit line at many k b.places
       places_behind f =
-          places_fit f.noted ea eh f.few_brackets_lem (omega (arith, f.bytes_long, el, ap length e, length-sets bytes (row_at k) (head_from heads k)))
+          places_fit f.noted ea eh f.few_brackets_lem
 
-      pub some_places : SomeBracketFits line heads parts masses scores k t bytes numbers → (ps : List (Place ℕ)) × PlacesFit line at many k ps bytes₂
+      pub some_places : SomeBracketFits line heads parts masses scores k t bytes numbers → (ps : List (Place ℕ)) × PlacesFit line at many k ps
       some_places s = (s.this.places, places_behind s.fits)
 
-      pub bracket_put : {u : ℕ} {bytes₃ : List ℕ} {numbers₂ numbers₃ : List ℤ} {x : ℤ}
+      pub bracket_put : {u : ℕ} {bytes₂ bytes₃ : List ℕ} {numbers₂ numbers₃ : List ℤ} {x : ℤ}
           → ((ps : List (Part ℕ)) (a : Pieces) → PartsFit line parts masses m n k t ps a bytes₁ numbers → PartsPut k t ps a u bytes₂ numbers₂)
-          → ((ps : List (Place ℕ)) → PlacesFit line at many k ps bytes₂ → bytes₃ ≡ sets bytes₂ (places_at k) (places_put ps))
+          → ((ps : List (Place ℕ)) → PlacesFit line at many k ps → bytes₃ ≡ sets bytes₂ (places_at k) (places_put ps))
           → x ≡ get_or scores k (pos 0) → numbers₃ ≡ set numbers₂ (mass_at k part_limit) x
           → (b : Bracket ℕ) (a : Pieces) → BracketGoesIn line heads parts masses scores k t b a bytes numbers → BracketPut k t b a u bytes₃ numbers₃
       bracket_put {numbers₂ = numbers₂} put place ex en b a f =
@@ -92,9 +90,8 @@ module _ {line heads parts : List ℕ} {masses scores : List ℤ} {n : ℕ} {ks 
         let v = next.behind in
         omega (arith, texts_before, ap (λ y. length (flat bracket_texts y)) next.is, flat_append_length bracket_texts next.before (b ∷ v), ap length (flat_cons bracket_texts b v), length-append (bracket_texts b) (flat bracket_texts v))
 
-    fits : length bytes ≡ length bytes₀ → length numbers ≡ length numbers₀
-        → BracketGoesIn line heads parts masses scores k t next.this (brackets_added next.before a) bytes numbers
-    fits eb en =
+    fits : BracketGoesIn line heads parts masses scores k t next.this (brackets_added next.before a) bytes numbers
+    fits =
         let p = next.place in
         record {
           residues = f.residues;
@@ -102,8 +99,6 @@ module _ {line heads parts : List ℕ} {masses scores : List ℤ} {n : ℕ} {ks 
           noted = subst (λ i. BracketNoted line heads parts masses scores f.residues i next.this) (sym p) (f.noted next.before next.this next.behind next.is);
           few_brackets_lem = omega (arith, f.few_brackets_lem);
           texts_room = omega (arith, room, f.texts_room);
-          bytes_long = omega (arith, f.bytes_long);
-          numbers_long = omega (arith, f.numbers_long);
           areas_are = areas_as refl refl refl (omega arith) (sym texts_before) (omega arith) put_before.areas_are;
         }
 
@@ -119,12 +114,10 @@ module _ {line heads parts : List ℕ} {masses scores : List ℤ} {n : ℕ} {ks 
 
 pub record StoringBrackets (line heads parts : List ℕ) (masses scores : List ℤ) (n : ℕ) (bytes₀ : List ℕ) (numbers₀ : List ℤ) (k t : ℕ) (bytes : List ℕ) (numbers : List ℤ) : Type 0 where
   pub few : k ≤ n
-  pub bytes_long : length bytes ≡ length bytes₀
-  pub numbers_long : length numbers ≡ length numbers₀
   pub upto : (ks : List (Bracket ℕ)) (a : Pieces) → BracketsFit line heads parts masses scores n ks a bytes₀ numbers₀ → StoredUpto ks a k t bytes numbers
 
 pub bracketing_start : (line heads parts : List ℕ) (masses scores : List ℤ) (n : ℕ) (bytes : List ℕ) (numbers : List ℤ) → StoringBrackets line heads parts masses scores n bytes numbers 0 0 bytes numbers
-bracketing_start line heads parts masses scores n bytes numbers = record { few = omega arith; bytes_long = refl; numbers_long = refl; upto = λ ks a f. start f }
+bracketing_start line heads parts masses scores n bytes numbers = record { few = omega arith; upto = λ ks a f. start f }
 
 module _ {line heads parts : List ℕ} {masses scores : List ℤ} {n : ℕ} {bytes₀ : List ℕ} {numbers₀ : List ℤ} {k t : ℕ} {bytes : List ℕ} {numbers : List ℤ}
     (w : StoringBrackets line heads parts masses scores n bytes₀ numbers₀ k t bytes numbers) where
@@ -133,20 +126,18 @@ module _ {line heads parts : List ℕ} {masses scores : List ℤ} {n : ℕ} {byt
       let f = s.fit in
       let u = w.upto s.these s.pieces f in
       let x = next f u h in
-      record { this = x.this; pieces = brackets_added x.before s.pieces; fits = fits f u h w.bytes_long w.numbers_long }
+      record { this = x.this; pieces = brackets_added x.before s.pieces; fits = fits f u h }
 
   pub bracketing_next : k < n → {r : ℕ} {bytes' : List ℕ} {numbers' : List ℤ}
       → ((b : Bracket ℕ) (a : Pieces) → BracketGoesIn line heads parts masses scores k t b a bytes numbers → BracketPut k t b a r bytes' numbers')
-      → length bytes' ≡ length bytes → length numbers' ≡ length numbers → StoringBrackets line heads parts masses scores n bytes₀ numbers₀ (k + 1) r bytes' numbers'
-  bracketing_next h put eb en =
+      → StoringBrackets line heads parts masses scores n bytes₀ numbers₀ (k + 1) r bytes' numbers'
+  bracketing_next h put =
       record {
         few = omega arith;
-        bytes_long = eb ∙ w.bytes_long;
-        numbers_long = en ∙ w.numbers_long;
         upto = λ ks a f.
             let u = w.upto ks a f in
             let x = next f u h in
-            further f u h (put x.this (brackets_added x.before a) (fits f u h w.bytes_long w.numbers_long));
+            further f u h (put x.this (brackets_added x.before a) (fits f u h));
       }
 
   pub bracketing_end : n ≤ k → (ks : List (Bracket ℕ)) (a : Pieces) → BracketsFit line heads parts masses scores n ks a bytes₀ numbers₀ → BracketsPut ks a bytes numbers

@@ -5,7 +5,7 @@ use Prim.Native.Nat.{ℕ, ◌+◌, ◌*◌, ◌≤◌}
 use native.Mathlib.Omega.{arith}
 use lib.IntN.{ℤ}
 use lib.ListN.{length, take, drop, replicate, length-append, length-map, take-append-drop, replicate-append-replicate}
-use lib.Seq.{sets, length-sets}
+use lib.Seq.{sets}
 use Rattle.sheet.specs.declared.Sheet.{Sheet}
 use Rattle.scope.specs.Limits.{line_limit, residue_limit, bracket_limit}
 use Rattle.scope.specs.Line.{Bracket, Line}
@@ -17,7 +17,7 @@ use Rattle.layout_laws.proofs.LayoutLaws.{padded_length, bytes_length, numbers_l
 use Rattle.sheet.proofs.RowLaws.{sets_in}
 use Rattle.store.specs.Areas.{front_with, area_with, Pieces, AreasAre}
 use Rattle.store.specs.BracketPut.{BracketsFit, SomeBracketsFit, BracketsPut}
-use Rattle.store.specs.Filled.{FrontFits, front_put, Clean, Fills, FilledAll}
+use Rattle.store.specs.Filled.{front_put, Clean, Fills, FilledAll}
 use Rattle.store.proofs.AreaLaws.{store_end}
 use Rattle.store.proofs.NotedLine.{is_accepted, within, residues_many, brackets_many, letters_are, sections_are, bracket_noted}
 
@@ -116,14 +116,8 @@ module _ (l : Line ℕ) (old : List ℕ) (old_numbers : List ℤ) where
 -- ---- what store does
 module _ {line : List ℕ} {sheet : Sheet} {residues brackets : ℕ} {bytes : List ℕ} {numbers : List ℤ}
     (f : Fills line sheet residues brackets bytes numbers) where
-  pub front_fits : FrontFits sheet.letters sheet.sections residues brackets bytes
-  front_fits =
-      let w = f.line_noted in
-      record {
-        few_residues = omega (arith, residues_many w, (within w).few_residues);
-        few_brackets_lem = omega (arith, brackets_many w, (within w).few_brackets_lem);
-        bytes_long = f.clean.bytes_room;
-      }
+  pub front_fits : (residues ≤ residue_limit) × (brackets ≤ bracket_limit)
+  front_fits = let w = f.line_noted in (omega (arith, residues_many w, (within w).few_residues), omega (arith, brackets_many w, (within w).few_brackets_lem))
 
   module _ {bytes₁ : List ℕ} (e : bytes₁ ≡ front_put sheet.letters sheet.sections residues brackets bytes) where
     fit : BracketsFit line sheet.heads sheet.parts sheet.masses sheet.scores brackets f.holds_line.brackets (begun f.holds_line bytes numbers) bytes₁ numbers
@@ -140,8 +134,6 @@ module _ {line : List ℕ} {sheet : Sheet} {residues brackets : ℕ} {bytes : Li
           noted = bracket_noted w;
           few_brackets_lem = omega (arith, brackets_many w, (within w).few_brackets_lem);
           texts_room = (within w).texts;
-          bytes_long = omega (arith, f.clean.bytes_room, ap length e, length-sets (sets (sets bytes residues_at (counts_row residues brackets)) letters_at (take residues sheet.letters)) sections_at (take residues sheet.sections), length-sets (sets bytes residues_at (counts_row residues brackets)) letters_at (take residues sheet.letters), length-sets bytes residues_at (counts_row residues brackets));
-          numbers_long = f.clean.numbers_room;
           areas_are = begins l bytes numbers (within w) f.clean put;
         }
 

@@ -23,7 +23,7 @@ use Rattle.scope.specs.Glycans.{Item, cuttings, short_text}
 use Rattle.scope.specs.Kept.{composition_mass, cut_as, cut_value, kept_part}
 use Rattle.scope.specs.Refusals.{in_range, text_in, text_of}
 use Rattle.scope.specs.Tables.{millionths, label_of, score_of}
-use Rattle.scope.specs.Layout.{bytes_size, numbers_size, text_code, value_code, mass_in, decimals_in, packed, offset, part_fields, part_row, score_code}
+use Rattle.scope.specs.Layout.{text_code, value_code, mass_in, decimals_in, packed, offset, part_fields, part_row, score_code}
 use Rattle.basics.specs.Choice.{pick_true}
 use Rattle.basics.specs.Each.{OfGiven}
 use Rattle.basics.specs.Kinds.{kind_byte}
@@ -33,7 +33,7 @@ use Rattle.accepted_laws.specs.Laws.{first_within, last_within}
 use Rattle.layout_laws.proofs.Numbers.{few_decimals}
 use Rattle.layout_laws.proofs.LayoutLaws.{score_within, head_of}
 use Rattle.sites.specs.Says.{Stand}
-use Rattle.sheet.specs.Rows.{text_from, text_to, label_from, label_to, decimals_noted, mass_noted, AsRead, score_noted, points_noted, places_from, heads_room, parts_room, masses_room}
+use Rattle.sheet.specs.Rows.{text_from, text_to, label_from, label_to, decimals_noted, mass_noted, AsRead, score_noted, points_noted, places_from, masses_room}
 use Rattle.sheet.specs.Fields.{kind_field, first_field, last_field, parts_field, score_field, places_field, many_field, value_field, key_field, decimals_field}
 use Rattle.store.specs.PartPut.{text_noted, is_composed, composed, text_put, value_put, decimals_put, mass_put, text_length, label_length, texts_from, offset_of, row_from, RowFits, PartNoted}
 use Rattle.store.specs.BracketPut.{head_from, HeadGoesIn, PlacesFit, BracketNoted}
@@ -216,10 +216,10 @@ module _ {line parts : List ℕ} {masses : List ℤ} {m : ℕ} {p : Part ℕ} (w
       let k : is_key Glycan q ≡ true = and_left _ _ (sym composed_is ∙ e) in
       ap (λ t. none? (cuttings t)) text_noted_lem ∙ (rw k at w.cut)
 
-  pub row_fits : {k j t : ℕ} {bytes : List ℕ} {numbers : List ℤ} → m < masses_room
-      → t + length (packed p) ≤ line_limit → k < bracket_limit → j < part_limit → bytes_size ≤ length bytes → numbers_size ≤ length numbers
-      → RowFits line parts masses m k j t bytes numbers
-  row_fits c d e f g h =
+  pub row_fits : {k j t : ℕ} → m < masses_room
+      → t + length (packed p) ≤ line_limit → k < bracket_limit → j < part_limit
+      → RowFits line parts masses m k j t
+  row_fits c d e f =
       record {
         few_rows = c;
         value_byte = omega (arith, w.fields.value, few_values q.value);
@@ -235,8 +235,6 @@ module _ {line parts : List ℕ} {masses : List ℤ} {m : ℕ} {p : Part ℕ} (w
         texts_room = omega (arith, texts_long);
         few_brackets_lem = e;
         few_parts_lem = f;
-        bytes_long = g;
-        numbers_long = h;
       }
 
 -- ---- what is kept of a bracket has its number of parts and its score
@@ -274,9 +272,9 @@ module _ {line heads parts : List ℕ} {masses scores : List ℤ} {n k : ℕ} {b
   pub points_are : get_or scores k (pos 0) ≡ given (score_of b.parts) millionths (pos 0)
   points_are = w.score_is ∙ ap points_noted score_same ∙ points_noted_lem (score_of b.parts) the_score
 
-  pub places_fit : {at many : ℕ} {bytes : List ℕ} → at ≡ places_field heads k → many ≡ many_field heads k → k < bracket_limit → bytes_size ≤ length bytes
-      → PlacesFit line at many k b.places bytes
-  places_fit ea em q l =
+  pub places_fit : {at many : ℕ} → at ≡ places_field heads k → many ≡ many_field heads k → k < bracket_limit
+      → PlacesFit line at many k b.places
+  places_fit ea em q =
       let from = ea ∙ w.fields.places ∙ ap (λ z. places_from z.places) (sym w.keeps) in
       let count = em ∙ w.fields.many ∙ ap (λ z. length z.places) (sym w.keeps) in
       record {
@@ -285,11 +283,10 @@ module _ {line heads parts : List ℕ} {masses scores : List ℤ} {n k : ℕ} {b
         next = w.placed.0;
         stand = subst (λ i. Stand line i b.places w.placed.0) (sym from) w.placed.1;
         few_brackets_lem = q;
-        bytes_long = l;
       }
 
-  pub head_fits : {bytes : List ℕ} → n ≤ residue_limit → k < bracket_limit → bytes_size ≤ length bytes → HeadGoesIn heads k bytes
-  head_fits r q l =
+  pub head_fits : n ≤ residue_limit → k < bracket_limit → HeadGoesIn heads k
+  head_fits r q =
       let f = w.fields in
       record {
         few_brackets_lem = q;
@@ -299,5 +296,4 @@ module _ {line heads parts : List ℕ} {masses scores : List ℤ} {n k : ℕ} {b
         count_byte = omega (arith, f.count);
         parts_byte = omega (arith, parts_many, w.within.few_parts_lem);
         score_byte = omega (arith, score_field_lem, score_few (score_of b.parts) the_score);
-        bytes_long = l;
       }

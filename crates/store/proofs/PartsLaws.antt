@@ -1,18 +1,18 @@
 -- The loop over the parts of a bracket: the areas hold those that are passed, and the row of the next one fits.
-use mathlib.Core.Path.{◌≡◌, refl, sym, ap, ap₂, subst, ◌∙◌}
+use mathlib.Core.Path.{◌≡◌, sym, ap, ap₂, subst, ◌∙◌}
 use mathlib.Core.List.{List, [], ◌∷◌, ◌++◌}
 use Prim.Native.Nat.{ℕ, ◌+◌, ◌≤◌, ◌<◌}
 use native.Mathlib.Omega.{arith}
 use lib.IntN.{ℤ}
-use lib.ListN.{length, take, set, length-append, length-set}
-use lib.Seq.{sets, length-sets, take_all}
+use lib.ListN.{length, take, set, length-append}
+use lib.Seq.{sets, take_all}
 use Rattle.scope.specs.Line.{Part}
 use Rattle.scope.specs.Lists.{flat}
 use Rattle.scope.specs.Layout.{texts_at, part_at, mass_at, packed}
 use Rattle.basics.specs.Lists.{flat_append_length, flat_cons}
 use Rattle.sheet.proofs.FieldLaws.{Among, among}
 use Rattle.store.specs.Areas.{Pieces}
-use Rattle.store.specs.PartPut.{texts_from, row_from, mass_put, RowFits, RowPut, PartNoted, PartsFit, SomePartsFit, PartsPut}
+use Rattle.store.specs.PartPut.{RowFits, RowPut, PartNoted, PartsFit, SomePartsFit, PartsPut}
 use Rattle.store.proofs.NotedRows.{texts_long, texts_noted, row_noted, number_noted, row_fits}
 use Rattle.store.proofs.Passed.{passed, passed_next}
 use Rattle.store.proofs.AreaLaws.{no_parts_lem, part_more}
@@ -35,10 +35,10 @@ module _ {line parts : List ℕ} {masses : List ℤ} {m n k t : ℕ} {ps : List 
         let v = next.behind in
         omega (arith, before.texts_are, ap (λ y. length (flat packed y)) next.is, flat_append_length packed next.before (p ∷ v), ap length (flat_cons packed p v), length-append (packed p) (flat packed v))
 
-    fits : length bytes ≡ length bytes₀ → length numbers ≡ length numbers₀ → RowFits line parts masses (m + j) k j u bytes numbers
-    fits eb en =
+    fits : RowFits line parts masses (m + j) k j u
+    fits =
         row_fits noted (omega (arith, f.few_rows)) (omega (arith, room, f.texts_room)) f.few_brackets_lem
-        (omega (arith, f.few_parts_lem)) (omega (arith, f.bytes_long)) (omega (arith, f.numbers_long))
+        (omega (arith, f.few_parts_lem))
 
     further : {r : ℕ} {bytes' : List ℕ} {numbers' : List ℤ} → RowPut line parts masses (m + j) k j u bytes numbers r bytes' numbers'
         → PartsPut k t (take (j + 1) ps) a r bytes' numbers'
@@ -54,30 +54,22 @@ module _ {line parts : List ℕ} {masses : List ℤ} {m n k t : ℕ} {ps : List 
 -- ---- the loop
 pub record StoringParts (line parts : List ℕ) (masses : List ℤ) (m n k t : ℕ) (bytes₀ : List ℕ) (numbers₀ : List ℤ) (j u : ℕ) (bytes : List ℕ) (numbers : List ℤ) : Type 0 where
   pub few : j ≤ n
-  pub bytes_long : length bytes ≡ length bytes₀
-  pub numbers_long : length numbers ≡ length numbers₀
   pub put : (ps : List (Part ℕ)) (a : Pieces) → PartsFit line parts masses m n k t ps a bytes₀ numbers₀ → PartsPut k t (take j ps) a u bytes numbers
 
 pub parting_start : (line parts : List ℕ) (masses : List ℤ) (m n k t : ℕ) (bytes : List ℕ) (numbers : List ℤ) → StoringParts line parts masses m n k t bytes numbers 0 t bytes numbers
 parting_start line parts masses m n k t bytes numbers =
-    record { few = omega arith; bytes_long = refl; numbers_long = refl; put = λ ps a f. no_parts_lem f.areas_are }
+    record { few = omega arith; put = λ ps a f. no_parts_lem f.areas_are }
 
 module _ {line parts : List ℕ} {masses : List ℤ} {m n k t : ℕ} {bytes₀ : List ℕ} {numbers₀ : List ℤ} {j u : ℕ} {bytes : List ℕ} {numbers : List ℤ}
     (w : StoringParts line parts masses m n k t bytes₀ numbers₀ j u bytes numbers) where
-  pub parting_fits : SomePartsFit line parts masses m n k t bytes₀ numbers₀ → j < n → RowFits line parts masses (m + j) k j u bytes numbers
-  parting_fits s h = fits s.fit (w.put s.these s.pieces s.fit) h w.bytes_long w.numbers_long
+  pub parting_fits : SomePartsFit line parts masses m n k t bytes₀ numbers₀ → j < n → RowFits line parts masses (m + j) k j u
+  parting_fits s h = fits s.fit (w.put s.these s.pieces s.fit) h
 
   pub parting_next : j < n → {r : ℕ} {bytes' : List ℕ} {numbers' : List ℤ} → RowPut line parts masses (m + j) k j u bytes numbers r bytes' numbers'
       → StoringParts line parts masses m n k t bytes₀ numbers₀ (j + 1) r bytes' numbers'
   parting_next h q =
       record {
         few = omega arith;
-        bytes_long =
-            ap length q.bytes_are
-            ∙ length-sets (sets bytes (texts_at + u) (texts_from line parts (m + j))) (part_at k j) (row_from line parts (m + j) u)
-            ∙ length-sets bytes (texts_at + u) (texts_from line parts (m + j))
-            ∙ w.bytes_long;
-        numbers_long = ap length q.numbers_are ∙ length-set numbers (mass_at k j) (mass_put line parts masses (m + j)) ∙ w.numbers_long;
         put = λ ps a f. further f (w.put ps a f) h q;
       }
 

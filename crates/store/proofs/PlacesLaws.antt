@@ -3,7 +3,7 @@ use mathlib.Core.Path.{◌≡◌, refl, sym, ap, subst, ◌∙◌}
 use mathlib.Core.List.{List, [], ◌∷◌, ◌++◌, map, append_assoc, append-nil, map-append}
 use Prim.Native.Nat.{ℕ, suc, ◌+◌, ◌≤◌, ◌<◌}
 use native.Mathlib.Omega.{arith}
-use lib.ListN.{length, set, length-append, length-map, length-set}
+use lib.ListN.{length, set, length-append, length-map}
 use lib.Seq.{sets}
 use Rattle.scope.specs.Line.{Place}
 use Rattle.scope.specs.Layout.{places_at, site_at}
@@ -62,58 +62,41 @@ none_left before (p ∷ behind) is h = absurd (omega (arith, ap length is, lengt
 -- ---- the loop, behind their number
 pub record StoringPlaces (line : List ℕ) (at n k : ℕ) (bytes₀ : List ℕ) (i j : ℕ) (bytes : List ℕ) : Type 0 where
   pub few : j ≤ n
-  pub bytes_long : length bytes ≡ length bytes₀
-  pub upto : (ps : List (Place ℕ)) (f : PlacesFit line at n k ps bytes₀) → PlacedUpto line k ps f.next bytes₀ i j bytes
+  pub upto : (ps : List (Place ℕ)) (f : PlacesFit line at n k ps) → PlacedUpto line k ps f.next bytes₀ i j bytes
 
 pub placing_start : (line : List ℕ) (at n k : ℕ) (bytes : List ℕ) → StoringPlaces line at n k bytes at 0 bytes
 placing_start line at n k bytes =
     record {
       few = omega arith;
-      bytes_long = refl;
       upto = λ ps f. record { before = []; behind = ps; is = refl; place = refl; stand = f.stand; put = refl };
     }
 
--- their number changes nothing of the room
-pub places_still : {line : List ℕ} {at n k : ℕ} {ps : List (Place ℕ)} {bytes bytes' : List ℕ} → bytes' ≡ set bytes (places_at k) n → PlacesFit line at n k ps bytes
-    → PlacesFit line at n k ps bytes'
-places_still {n = n} {k = k} {bytes = bytes} e f =
-    record {
-      many = f.many;
-      few = f.few;
-      next = f.next;
-      stand = f.stand;
-      few_brackets_lem = f.few_brackets_lem;
-      bytes_long = omega (arith, f.bytes_long, ap length e, length-set bytes (places_at k) n);
-    }
-
 module _ {line : List ℕ} {at n k : ℕ} {bytes₀ : List ℕ} {i j : ℕ} {bytes : List ℕ} (w : StoringPlaces line at n k bytes₀ i j bytes) where
-  more : (ps : List (Place ℕ)) (f : PlacesFit line at n k ps bytes₀) → j < n → Further line k ps f.next bytes₀ i j bytes
+  more : (ps : List (Place ℕ)) (f : PlacesFit line at n k ps) → j < n → Further line k ps f.next bytes₀ i j bytes
   more ps f h = let u = w.upto ps f in further u.before u.behind u.is u.place u.stand u.put (omega (arith, f.many))
 
-  module _ {entry : List ℕ} (e₀ : bytes₀ ≡ set entry (places_at k) n) where
-    module _ (s : (ps : List (Place ℕ)) × PlacesFit line at n k ps entry) (h : j < n) {site next : ℕ} (e : SiteIs line i site next) where
-      there : place_end line i ≤ length line
-      there = (more s.0 (places_still e₀ s.1) h).stands
+  module _ (s : (ps : List (Place ℕ)) × PlacesFit line at n k ps) (h : j < n) {site next : ℕ} (e : SiteIs line i site next) where
+    there : place_end line i ≤ length line
+    there = (more s.0 s.1 h).stands
 
-      pub placing_ends : next ≤ length line
-      placing_ends = omega (arith, (e there).1, there)
+    pub placing_ends : next ≤ length line
+    placing_ends = omega (arith, (e there).1, there)
 
-      pub placing_next : {bytes' : List ℕ} → bytes' ≡ set bytes (site_at k j) site → StoringPlaces line at n k bytes₀ (next + 1) (j + 1) bytes'
-      placing_next {bytes'} eb =
-          let q : bytes' ≡ set bytes (site_at k j) (place_of line i).site = eb ∙ ap (set bytes (site_at k j)) (e there).0 in
-          record {
-            few = omega arith;
-            bytes_long = ap length eb ∙ length-set bytes (site_at k j) site ∙ w.bytes_long;
-            upto = λ ps f.
-                subst (λ b. PlacedUpto line k ps f.next bytes₀ (next + 1) (j + 1) b) (sym q)
-                (subst (λ x. PlacedUpto line k ps f.next bytes₀ (x + 1) (j + 1) (set bytes (site_at k j) (place_of line i).site)) (sym (e there).1) (more ps f h).then);
-          }
+    pub placing_next : {bytes' : List ℕ} → bytes' ≡ set bytes (site_at k j) site → StoringPlaces line at n k bytes₀ (next + 1) (j + 1) bytes'
+    placing_next {bytes'} eb =
+        let q : bytes' ≡ set bytes (site_at k j) (place_of line i).site = eb ∙ ap (set bytes (site_at k j)) (e there).0 in
+        record {
+          few = omega arith;
+          upto = λ ps f.
+              subst (λ b. PlacedUpto line k ps f.next bytes₀ (next + 1) (j + 1) b) (sym q)
+              (subst (λ x. PlacedUpto line k ps f.next bytes₀ (x + 1) (j + 1) (set bytes (site_at k j) (place_of line i).site)) (sym (e there).1) (more ps f h).then);
+        }
 
-    pub placing_end : n ≤ j → (ps : List (Place ℕ)) → PlacesFit line at n k ps entry → bytes ≡ sets entry (places_at k) (places_put ps)
-    placing_end h ps f =
-        let u = w.upto ps (places_still e₀ f) in
-        let first : site_at k 0 ≡ suc (places_at k) = omega arith in
-        u.put
-        ∙ ap (λ x. sets bytes₀ (site_at k 0) (map site_of x)) (none_left u.before u.behind u.is (omega (arith, f.many, u.place)))
-        ∙ ap (λ x. sets x (site_at k 0) (map site_of ps)) (e₀ ∙ ap (set entry (places_at k)) f.many)
-        ∙ ap (λ x. sets (set entry (places_at k) (length ps)) x (map site_of ps)) first
+  pub placing_end : (entry : List ℕ) → bytes₀ ≡ set entry (places_at k) n → n ≤ j → (ps : List (Place ℕ)) → PlacesFit line at n k ps → bytes ≡ sets entry (places_at k) (places_put ps)
+  placing_end entry e₀ h ps f =
+      let u = w.upto ps f in
+      let first : site_at k 0 ≡ suc (places_at k) = omega arith in
+      u.put
+      ∙ ap (λ x. sets bytes₀ (site_at k 0) (map site_of x)) (none_left u.before u.behind u.is (omega (arith, f.many, u.place)))
+      ∙ ap (λ x. sets x (site_at k 0) (map site_of ps)) (e₀ ∙ ap (set entry (places_at k)) f.many)
+      ∙ ap (λ x. sets (set entry (places_at k) (length ps)) x (map site_of ps)) first

@@ -1,6 +1,6 @@
 -- What the stores of one row of the sheet come to, and those in front of the rows.
 use mathlib.Core.Path.{◌≡◌, refl, sym, ap, ap₂, ◌∙◌}
-use mathlib.Core.Bool.{Bool, true, false, true≢false}
+use mathlib.Core.Bool.{true, false, true≢false}
 use mathlib.Core.List.{List, [], ◌∷◌}
 use Prim.Native.Nat.{ℕ, ◌+◌, ◌-◌, ◌*◌, ◌^◌, ◌≤◌, ◌<◌}
 use native.Mathlib.Omega.{arith}
@@ -24,7 +24,8 @@ use Rattle.scope.specs.Refusals.{text_in}
 use Rattle.scope.specs.Layout.{residues_at, letters_at, sections_at, texts_at, part_at, mass_at, text_code, composition_code, value_code, mass_in, decimals_in, counts_row, part_fields}
 use Rattle.basics.specs.Choice.{pick_true, pick_false}
 use Rattle.basics.specs.Tests.{and_left}
-use Rattle.glycans.specs.Cut.{CutIs, short_of, weight_of, PutBefore}
+use Rattle.glycans.specs.declared.Cutting.{Cutting}
+use Rattle.glycans.specs.Cut.{Composed, short_of, weight_of, PutBefore}
 use Rattle.sheet.proofs.RowLaws.{put_behind}
 use Rattle.sheet.specs.Fields.{value_field, key_field, decimals_field, text_from_field, text_to_field, label_from_field, label_to_field}
 use Rattle.store.specs.PartPut.{text_noted, is_composed, composed, text_put, value_put, decimals_put, mass_put, text_length, label_length, offset_of, row_from, RowFits, RowCut, ShortIs, ComposedFits, NotedFits, RowPut}
@@ -40,25 +41,32 @@ pub back : (r : ℤ) {z : ℤ} → mag r < 2 ^ hbits w64 → r ≡ z → to_z w6
 back r h e = to_z-of_z {w = w64} {z = r} (record { sfits = h }) ∙ e
 
 -- ---- a part
-module _ {line parts : List ℕ} {masses : List ℤ} {m k j t : ℕ} {bytes : List ℕ} {numbers : List ℤ} (h : RowFits line parts masses m k j t bytes numbers) where
+module _ {line parts : List ℕ} {masses : List ℤ} {m k j t : ℕ} (h : RowFits line parts masses m k j t) where
+  label_long : length (part (label_from_field parts m) (label_length parts m) line) ≡ label_length parts m
+  label_long = part_length (label_from_field parts m) (label_length parts m) line (omega (arith, h.label_order, h.label_inside))
+
   -- the text, the label behind it, the row, the mass
-  pub row_put : {n l label value key decimals o : ℕ} {b₁ b₂ b₃ : List ℕ} {x : ℤ} {numbers' : List ℤ}
-      → n ≡ text_length line parts m → label ≡ label_from_field parts m → l ≡ label_length parts m
+  pub row_put : {n value key decimals o : ℕ} {label : List ℕ} {bytes b₁ b₂ b₃ : List ℕ} {x : ℤ} {numbers numbers' : List ℤ}
+      → n ≡ text_length line parts m → label ≡ part (label_from_field parts m) (label_length parts m) line
       → b₁ ≡ sets bytes (texts_at + t) (text_put line parts m)
-      → b₂ ≡ sets b₁ (texts_at + t + n) (part label l line)
-      → value ≡ value_put line parts m → key ≡ key_field parts m → decimals ≡ decimals_put line parts m → o ≡ offset_of (n + l) t
-      → b₃ ≡ sets b₂ (part_at k j) (part_fields value key decimals n l o)
+      → b₂ ≡ sets b₁ (texts_at + t + n) label
+      → value ≡ value_put line parts m → key ≡ key_field parts m → decimals ≡ decimals_put line parts m → o ≡ offset_of (n + length label) t
+      → b₃ ≡ sets b₂ (part_at k j) (part_fields value key decimals n (length label) o)
       → x ≡ mass_put line parts masses m → numbers' ≡ set numbers (mass_at k j) x
-      → RowPut line parts masses m k j t bytes numbers (t + n + l) b₃ numbers'
-  row_put en ef el e₁ e₂ ev ek ed eo e₃ ex ens =
+      → RowPut line parts masses m k j t bytes numbers (t + n + length label) b₃ numbers'
+  row_put {bytes = bytes} {numbers = numbers} en el e₁ e₂ ev ek ed eo e₃ ex ens =
       record {
-        texts_are = rw (en, el) (omega arith);
+        texts_are = rw (en, el, label_long) (omega arith);
         bytes_are =
-            rw (e₃, e₂, e₁, eo, ev, ek, ed, en, ef, el)
+            rw (e₃, e₂, e₁, eo, ev, ek, ed, en, el, label_long)
             (ap (λ z. sets z (part_at k j) (row_from line parts m t))
             (sym (sets_append bytes (texts_at + t) (text_put line parts m) (part (label_from_field parts m) (label_length parts m) line))));
         numbers_are = ens ∙ ap (set numbers (mass_at k j)) ex;
       }
+
+  pub label_is : {label ends : ℕ} → label ≡ label_from_field parts m → ends ≡ label_to_field parts m
+      → part label (ends - label) line ≡ part (label_from_field parts m) (label_length parts m) line
+  label_is el ee = ap₂ (λ x y. part x (y - x) line) el ee
 
   -- ---- as it is noted
   module _ (plain : is_composed parts m ≡ false) where
@@ -68,11 +76,8 @@ module _ {line parts : List ℕ} {masses : List ℤ} {m k j t : ℕ} {bytes : Li
     pub noted_text : {text to : ℕ} → text ≡ text_from_field parts m → to ≡ text_to_field parts m → part text (to - text) line ≡ text_put line parts m
     noted_text ef et = ap₂ (λ x y. part x (y - x) line) ef et ∙ sym text_noted_lem
 
-    pub noted_length : {text to : ℕ} → text ≡ text_from_field parts m → to ≡ text_to_field parts m → to - text ≡ text_length line parts m
-    noted_length ef et =
-        ap₂ (λ x y. x - y) et ef
-        ∙ sym (part_length (text_from_field parts m) (text_to_field parts m - text_from_field parts m) line (omega (arith, h.text_order, h.text_inside)))
-        ∙ ap length (sym text_noted_lem)
+    pub noted_length : {text to : ℕ} → text ≡ text_from_field parts m → to ≡ text_to_field parts m → length (part text (to - text) line) ≡ text_length line parts m
+    noted_length ef et = ap length (noted_text ef et)
 
     pub noted_value : {value : ℕ} → value ≡ value_field parts m → value ≡ value_put line parts m
     noted_value e = e ∙ sym (pick_false (is_composed parts m) _ _ plain)
@@ -83,27 +88,31 @@ module _ {line parts : List ℕ} {masses : List ℤ} {m k j t : ℕ} {bytes : Li
     pub noted_mass : {x : ℤ} → x ≡ get_or masses m (pos 0) → x ≡ mass_put line parts masses m
     noted_mass e = e ∙ sym (pick_false (is_composed parts m) _ _ plain)
 
-    pub noted_fits : NotedFits line parts masses m k j t bytes numbers
-    noted_fits = record { fits = h; plain = plain; room = omega (arith, h.texts_room, noted_length refl refl) }
+    text_long : length (text_noted line parts m) ≡ text_to_field parts m - text_from_field parts m
+    text_long = part_length (text_from_field parts m) (text_to_field parts m - text_from_field parts m) line (omega (arith, h.text_order, h.text_inside))
 
-    pub noted_put : {text to label ends value key decimals o : ℕ} {b₁ b₂ b₃ : List ℕ} {x : ℤ} {numbers' : List ℤ}
+    pub noted_fits : NotedFits line parts masses m k j t
+    noted_fits = record { fits = h; plain = plain; room = omega (arith, h.texts_room, noted_length refl refl, text_long) }
+
+    pub noted_put : {text to label ends value key decimals o : ℕ} {bytes b₁ b₂ b₃ : List ℕ} {x : ℤ} {numbers numbers' : List ℤ}
         → text ≡ text_from_field parts m → to ≡ text_to_field parts m → label ≡ label_from_field parts m → ends ≡ label_to_field parts m
         → b₁ ≡ sets bytes (texts_at + t) (part text (to - text) line)
-        → b₂ ≡ sets b₁ (texts_at + t + (to - text)) (part label (ends - label) line)
-        → value ≡ value_field parts m → key ≡ key_field parts m → decimals ≡ decimals_field parts m → o ≡ offset_of (to - text + (ends - label)) t
-        → b₃ ≡ sets b₂ (part_at k j) (part_fields value key decimals (to - text) (ends - label) o)
+        → b₂ ≡ sets b₁ (texts_at + t + length (part text (to - text) line)) (part label (ends - label) line)
+        → value ≡ value_field parts m → key ≡ key_field parts m → decimals ≡ decimals_field parts m
+        → o ≡ offset_of (length (part text (to - text) line) + length (part label (ends - label) line)) t
+        → b₃ ≡ sets b₂ (part_at k j) (part_fields value key decimals (length (part text (to - text) line)) (length (part label (ends - label) line)) o)
         → x ≡ get_or masses m (pos 0) → numbers' ≡ set numbers (mass_at k j) x
-        → RowPut line parts masses m k j t bytes numbers (t + (to - text) + (ends - label)) b₃ numbers'
-    noted_put ef et el ee e₁ e₂ ev ek ed eo e₃ ex en =
-        row_put (noted_length ef et) el (ap₂ (λ x y. x - y) ee el) (e₁ ∙ ap (sets bytes (texts_at + t)) (noted_text ef et)) e₂
+        → RowPut line parts masses m k j t bytes numbers (t + length (part text (to - text) line) + length (part label (ends - label) line)) b₃ numbers'
+    noted_put {bytes = bytes} ef et el ee e₁ e₂ ev ek ed eo e₃ ex en =
+        row_put (noted_length ef et) (label_is el ee) (e₁ ∙ ap (sets bytes (texts_at + t)) (noted_text ef et)) e₂
         (noted_value ev) ek (noted_decimals ed) eo e₃ (noted_mass ex) en
 
   -- the sum of them fits
-  pub noted_ends : (r : NotedFits line parts masses m k j t bytes numbers) {text to label ends : ℕ} → text ≡ text_from_field parts m → to ≡ text_to_field parts m → label ≡ label_from_field parts m → ends ≡ label_to_field parts m
+  pub noted_ends : (r : NotedFits line parts masses m k j t) {text to label ends : ℕ} → text ≡ text_from_field parts m → to ≡ text_to_field parts m → label ≡ label_from_field parts m → ends ≡ label_to_field parts m
       → t + (to - text) + (ends - label) ≤ line_limit
   noted_ends r ef et el ee = rw (ef, et, el, ee) (omega (arith, r.room))
 
-  pub composed_fits : is_composed parts m ≡ true → ComposedFits line parts masses m k j t bytes numbers
+  pub composed_fits : is_composed parts m ≡ true → ComposedFits line parts masses m k j t
   composed_fits e =
       record {
         fits = h;
@@ -154,7 +163,7 @@ module _ {line parts : List ℕ} {m : ℕ} (h : RowCut line parts m) where
     text_size : length (part text (to - text) line) ≤ text_limit
     text_size = omega (arith, ap length same_text, part_length (text_from_field parts m) (text_to_field parts m - text_from_field parts m) line (omega (arith, h.text_order, h.text_inside)), h.short_text_lem)
 
-    pub short_is : {cut : Bool} {size mass pieces : ℕ} → CutIs (part text (to - text) line) cut size mass pieces → ShortIs line parts m size mass
+    pub short_is : {c : Cutting} → Composed (part text (to - text) line) c → ShortIs line parts m c.size c.mass
     short_is w =
         record {
           sized = w.sized ∙ ap length cut_put;
@@ -178,7 +187,7 @@ put_in_front {area = area} {w = w} {n = n} q f room =
 
 -- ---- in front of the rows
 pub front_put_lem : (letters sections : List ℕ) (residues brackets : ℕ) (bytes : List ℕ) {b₁ b₂ b₃ : List ℕ}
-    → b₁ ≡ sets bytes residues_at (counts_row residues brackets) → b₂ ≡ sets b₁ letters_at (part 0 residues letters) → b₃ ≡ sets b₂ sections_at (part 0 residues sections)
+    → b₁ ≡ sets bytes residues_at (counts_row residues brackets) → b₂ ≡ sets b₁ letters_at (take residues letters) → b₃ ≡ sets b₂ sections_at (take residues sections)
     → b₃ ≡ front_put letters sections residues brackets bytes
 front_put_lem letters sections residues brackets bytes e₁ e₂ e₃ =
     e₃ ∙ ap (λ b. sets b sections_at (take residues sections)) (e₂ ∙ ap (λ b. sets b letters_at (take residues letters)) e₁)

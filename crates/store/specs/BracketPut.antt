@@ -6,9 +6,9 @@ use Rattle.scope.specs.Kept.{kept_bracket}
 use Rattle.scope.specs.Line.{Place, Bracket}
 use Rattle.scope.specs.Lists.{flat}
 use Rattle.scope.specs.Tables.{score_of}
-use Rattle.scope.specs.Layout.{bytes_size, numbers_size, row_size, number_row_size, head_row, bracket_texts}
+use Rattle.scope.specs.Layout.{row_size, number_row_size, head_row, bracket_texts}
 use Rattle.accepted_laws.specs.Within.{BracketWithin}
-use Rattle.sheet.specs.Rows.{heads_room, parts_room, masses_room, points_noted, PlacesStand}
+use Rattle.sheet.specs.Rows.{masses_room, points_noted, PlacesStand}
 use Rattle.sheet.specs.Fields.{kind_field, first_field, last_field, count_field, parts_field, score_field, HeadIs}
 use Rattle.sites.specs.Says.{Stand}
 use Rattle.store.specs.Areas.{Pieces, AreasAre, bracket_added, brackets_added}
@@ -19,7 +19,7 @@ abbrev pub head_from : List ℕ → ℕ → List ℕ
 head_from heads k =
     head_row (kind_field heads k) (first_field heads k) (last_field heads k) (count_field heads k) (parts_field heads k) (score_field heads k)
 
-pub record HeadGoesIn (heads : List ℕ) (k : ℕ) (bytes : List ℕ) : Type 0 where
+pub record HeadGoesIn (heads : List ℕ) (k : ℕ) : Type 0 where
   pub few_brackets_lem : k < bracket_limit
   pub kind_byte : kind_field heads k < byte_limit
   pub first_few : first_field heads k < position_limit
@@ -27,7 +27,6 @@ pub record HeadGoesIn (heads : List ℕ) (k : ℕ) (bytes : List ℕ) : Type 0 w
   pub count_byte : count_field heads k < byte_limit
   pub parts_byte : parts_field heads k < byte_limit
   pub score_byte : score_field heads k < byte_limit
-  pub bytes_long : bytes_size ≤ length bytes
 
 -- ---- places
 -- how many, then the site of each
@@ -35,13 +34,12 @@ abbrev pub places_put : List (Place ℕ) → List ℕ
 places_put ps = length ps ∷ map (λ p. p.site) ps
 
 -- n places stand in the line from a place on, and fit as those of bracket k
-pub record PlacesFit (line : List ℕ) (at n k : ℕ) (ps : List (Place ℕ)) (bytes : List ℕ) : Type 0 where
+pub record PlacesFit (line : List ℕ) (at n k : ℕ) (ps : List (Place ℕ)) : Type 0 where
   pub many : n ≡ length ps
   pub few : n ≤ place_limit
   pub next : ℕ
   pub stand : Stand line at ps next
   pub few_brackets_lem : k < bracket_limit
-  pub bytes_long : bytes_size ≤ length bytes
 
 -- ---- a bracket
 -- row k is of a bracket of a line with n residues, and b is what is kept of it
@@ -63,8 +61,6 @@ pub record BracketGoesIn (line heads parts : List ℕ) (masses scores : List ℤ
   pub noted : BracketNoted line heads parts masses scores residues k b
   pub few_brackets_lem : k < bracket_limit
   pub texts_room : t + length (bracket_texts b) ≤ line_limit
-  pub bytes_long : bytes_size ≤ length bytes
-  pub numbers_long : numbers_size ≤ length numbers
   pub areas_are : AreasAre a (k * row_size) t (k * number_row_size) bytes numbers
 
 pub record SomeBracketFits (line heads parts : List ℕ) (masses scores : List ℤ) (k t : ℕ) (bytes : List ℕ) (numbers : List ℤ) : Type 0 where
@@ -90,8 +86,6 @@ pub record BracketsFit (line heads parts : List ℕ) (masses scores : List ℤ) 
   pub noted : BracketsNoted line heads parts masses scores residues ks
   pub few_brackets_lem : n ≤ bracket_limit
   pub texts_room : length (flat bracket_texts ks) ≤ line_limit
-  pub bytes_long : bytes_size ≤ length bytes
-  pub numbers_long : numbers_size ≤ length numbers
   pub areas_are : AreasAre a 0 0 0 bytes numbers
 
 pub record SomeBracketsFit (line heads parts : List ℕ) (masses scores : List ℤ) (n : ℕ) (bytes : List ℕ) (numbers : List ℤ) : Type 0 where

@@ -1,7 +1,6 @@
 -- What the tables of an accepted line, noted in the sheet, are put into, and what the areas hold then.
 use Rattle.std.specs.Prelude.{◌≡◌, List, ℕ, ◌≤◌, ℤ, pos, length, take, replicate}
 use Rattle.std.proofs.lemmas.List.Edits.{sets}
-use Rattle.scope.specs.Limits.{residue_limit, bracket_limit}
 use Rattle.scope.specs.Line.{Line}
 use Rattle.scope.specs.Lists.{laid}
 use Rattle.scope.specs.Layout.{bytes_size, numbers_size, residues_at, letters_at, sections_at, counts_row, bytes_of, numbers_of}
@@ -9,11 +8,6 @@ use Rattle.sheet.specs.declared.Sheet.{Sheet}
 use Rattle.sheet.specs.Kept.{LineNoted}
 
 -- ---- in front of the rows: the numbers of residues and brackets, then letters and sections
-pub record FrontFits (letters sections : List ℕ) (residues brackets : ℕ) (bytes : List ℕ) : Type 0 where
-  pub few_residues : residues ≤ residue_limit
-  pub few_brackets_lem : brackets ≤ bracket_limit
-  pub bytes_long : bytes_size ≤ length bytes
-
 abbrev pub front_put : List ℕ → List ℕ → ℕ → ℕ → List ℕ → List ℕ
 front_put letters sections residues brackets bytes =
     sets (sets (sets bytes residues_at (counts_row residues brackets)) letters_at (take residues letters)) sections_at (take residues sections)

@@ -10,16 +10,11 @@ use Rattle.scope.specs.Lists.{none?, flat, part}
 use Rattle.scope.specs.Glycans.{cuttings}
 use Rattle.scope.specs.Kept.{cut_as, kept_part}
 use Rattle.scope.specs.Refusals.{text_in, is_uncut}
-use Rattle.scope.specs.Layout.{bytes_size, numbers_size, part_size, head_size, row_size, number_row_size, texts_at, part_at, mass_at, text_code, value_code, mass_in, decimals_in, packed, part_fields}
+use Rattle.scope.specs.Layout.{part_size, head_size, row_size, number_row_size, texts_at, part_at, mass_at, text_code, value_code, mass_in, decimals_in, packed, part_fields}
 use Rattle.accepted_laws.specs.Within.{PartWithin}
-use Rattle.sheet.specs.Rows.{parts_room, masses_room, mass_noted, Stands}
+use Rattle.sheet.specs.Rows.{masses_room, mass_noted, Stands}
 use Rattle.sheet.specs.Fields.{value_field, key_field, decimals_field, text_from_field, text_to_field, label_from_field, label_to_field, PartIs}
 use Rattle.store.specs.Areas.{Pieces, AreasAre, parts_added}
-
--- n elements from a place on fit at a place of an area
-pub record Copies (from : List ℕ) (a n : ℕ) (bytes : List ℕ) (at : ℕ) : Type 0 where
-  pub inside : a + n ≤ length from
-  pub room : at + n ≤ length bytes
 
 -- ---- row m
 -- the text that is noted
@@ -66,7 +61,7 @@ row_from line parts m t =
     (offset_of (text_length line parts m + label_length parts m) t)
 
 -- it fits as part j of bracket k, its texts behind t others
-pub record RowFits (line parts : List ℕ) (masses : List ℤ) (m k j t : ℕ) (bytes : List ℕ) (numbers : List ℤ) : Type 0 where
+pub record RowFits (line parts : List ℕ) (masses : List ℤ) (m k j t : ℕ) : Type 0 where
   pub few_rows : m < masses_room
   pub value_byte : value_field parts m < byte_limit
   pub key_byte : key_field parts m < byte_limit
@@ -81,8 +76,6 @@ pub record RowFits (line parts : List ℕ) (masses : List ℤ) (m k j t : ℕ) (
   pub texts_room : t + (text_length line parts m + label_length parts m) ≤ line_limit
   pub few_brackets_lem : k < bracket_limit
   pub few_parts_lem : j < part_limit
-  pub bytes_long : bytes_size ≤ length bytes
-  pub numbers_long : numbers_size ≤ length numbers
 
 -- it is a composition, and can be cut
 pub record RowCut (line parts : List ℕ) (m : ℕ) : Type 0 where
@@ -100,13 +93,13 @@ pub record ShortIs (line parts : List ℕ) (m size mass : ℕ) : Type 0 where
   pub weighs : pos mass ≡ mass_in (composed line parts m)
   pub fits : mass < 2 ^ 63
 
-pub record ComposedFits (line parts : List ℕ) (masses : List ℤ) (m k j t : ℕ) (bytes : List ℕ) (numbers : List ℤ) : Type 0 where
-  pub fits : RowFits line parts masses m k j t bytes numbers
+pub record ComposedFits (line parts : List ℕ) (masses : List ℤ) (m k j t : ℕ) : Type 0 where
+  pub fits : RowFits line parts masses m k j t
   pub composed_row : RowCut line parts m
 
 -- as it is noted: it is no composition
-pub record NotedFits (line parts : List ℕ) (masses : List ℤ) (m k j t : ℕ) (bytes : List ℕ) (numbers : List ℤ) : Type 0 where
-  pub fits : RowFits line parts masses m k j t bytes numbers
+pub record NotedFits (line parts : List ℕ) (masses : List ℤ) (m k j t : ℕ) : Type 0 where
+  pub fits : RowFits line parts masses m k j t
   pub plain : is_composed parts m ≡ false
   pub room : t + (text_to_field parts m - text_from_field parts m + label_length parts m) ≤ line_limit
 
@@ -138,8 +131,6 @@ pub record PartsFit (line parts : List ℕ) (masses : List ℤ) (m n k t : ℕ) 
   pub few_brackets_lem : k < bracket_limit
   pub few_parts_lem : n ≤ part_limit
   pub texts_room : t + length (flat packed ps) ≤ line_limit
-  pub bytes_long : bytes_size ≤ length bytes
-  pub numbers_long : numbers_size ≤ length numbers
   pub areas_are : AreasAre a (k * row_size + head_size) t (k * number_row_size) bytes numbers
 
 pub record SomePartsFit (line parts : List ℕ) (masses : List ℤ) (m n k t : ℕ) (bytes : List ℕ) (numbers : List ℤ) : Type 0 where

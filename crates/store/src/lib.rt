@@ -1,80 +1,39 @@
 // The tables of an accepted line, put into the lent areas from the sheet in which the walk noted it.
 #![tactic(auto)]
 
-ghost use Rattle.std.specs.Prelude.{◌≡◌, List, ◌++◌, ℕ, ◌<◌, ◌≤◌, pos, length, get_or, drop, replicate};
+ghost use Rattle.std.specs.Prelude.{◌≡◌, List, ℕ, ◌+◌, ◌<◌, ◌≤◌, length};
 ghost use Rattle.std.proofs.lemmas.List.Edits.{sets};
+ghost use Rattle.scope.specs.Limits.{residue_limit, bracket_limit};
 ghost use Rattle.scope.specs.Line.{Place, Part, Bracket, Line};
-ghost use Rattle.scope.specs.Lists.{part};
-ghost use Rattle.scope.specs.Layout.{bytes_size, numbers_size, row_at, places_at};
+ghost use Rattle.scope.specs.Layout.{row_at, places_at};
 ghost use Rattle.scope.specs.Refusals.{outcome, accepted};
 ghost use Rattle.store.specs.Areas.{Pieces};
 ghost use Rattle.glycans.specs.Cut.{Room, PutBefore};
 ghost use Rattle.sheet.specs.Rows.{masses_room};
-ghost use Rattle.store.specs.PartPut.{Copies, is_composed, text_put, offset_of, RowFits, RowCut, ShortIs, ComposedFits, NotedFits, RowPut, SomePartsFit, PartsFit, PartsPut};
+ghost use Rattle.store.specs.PartPut.{is_composed, text_put, offset_of, RowFits, RowCut, ShortIs, ComposedFits, NotedFits, RowPut, SomePartsFit, PartsFit, PartsPut};
 ghost use Rattle.store.specs.BracketPut.{head_from, HeadGoesIn, places_put, PlacesFit, SomeBracketFits, BracketGoesIn, BracketPut, SomeBracketsFit, BracketsFit, BracketsPut};
-ghost use Rattle.store.specs.Filled.{FrontFits, front_put, Fills, FilledAll};
+ghost use Rattle.store.specs.Filled.{front_put, Fills, FilledAll};
 
 use areas::{Bytes, Numbers};
 use glycans::Cutting;
 use scope::tables::Tables;
 use sheet::Sheet;
 
-// ---- zeros
-
-// The first n bytes; what lies past them stays.
-pub fn zero_bytes(bytes: &mut Bytes, n: usize)
-    requires { n ≤ length bytes.old }
-    ensures { bytes.new ≡ replicate n 0 ++ drop n bytes.old }
-{
-    let mut i: usize = 0;
-    while i < n {
-        bytes[i] = 0;
-        i += 1;
-    }
-}
-
-// The first n numbers, likewise.
-pub fn zero_numbers(numbers: &mut Numbers, n: usize)
-    requires { n ≤ length numbers.old }
-    ensures { numbers.new ≡ replicate n (pos 0) ++ drop n numbers.old }
-{
-    let mut i: usize = 0;
-    while i < n {
-        numbers[i] = 0;
-        i += 1;
-    }
-}
-
-// Zeros in the room of the tables; what lies past it stays.
-pub fn clear(bytes: &mut Bytes, numbers: &mut Numbers)
-    ensures { (bytes.new ≡ replicate bytes_size 0 ++ drop bytes_size bytes.old) × (numbers.new ≡ replicate numbers_size (pos 0) ++ drop numbers_size numbers.old) }
-{
-    zero_bytes(bytes, Tables::BYTES);
-    zero_numbers(numbers, Tables::NUMBERS);
-}
-
 // ---- a part
 
-// The n bytes of `from` from `a` on, to the place `at`.
-fn copy(from: &[u8], a: usize, n: usize, bytes: &mut Bytes, at: usize)
-    requires { Copies from.now a n bytes.old at }
-    ensures { bytes.new ≡ sets bytes.old at (part a n from.now) }
+// Bytes put at a place; the others stay.
+fn put(bytes: &mut Bytes, at: usize, from: &[u8])
+    requires { at + length from.now ≤ length bytes.old }
+    ensures { bytes.new ≡ sets bytes.old at from.now }
 {
-    let mut i: usize = 0;
-    while i < n {
-        bytes[at + i] = from[a + i];
-        i += 1;
-    }
+    bytes[at..at + from.len()].copy_from_slice(from);
 }
 
 // Where so many bytes lie behind t others: nowhere, where there are none.
 pub fn offset_of(n: usize, t: usize) -> usize
     ensures { (result ≡ offset_of n t) × (result ≤ t) }
 {
-    if n == 0 {
-        return 0;
-    }
-    t
+    if n == 0 { 0 } else { t }
 }
 
 // the code of a text
@@ -85,7 +44,7 @@ pub fn is_composition(sheet: &Sheet, m: usize) -> bool
     requires { m < masses_room }
     ensures { result ≡ is_composed sheet.now.parts m }
 {
-    (sheet.key_of(m) == Cutting::KEY) & (sheet.value_of(m) == TEXT)
+    sheet.key_of(m) == Cutting::KEY && sheet.value_of(m) == TEXT
 }
 
 // How long the short text of the composition in row m is, and what it weighs.
@@ -93,7 +52,7 @@ pub fn composition(line: &[u8], sheet: &Sheet, m: usize) -> Cutting
     requires { RowCut line.now sheet.now.parts m }
     ensures { ShortIs line.now sheet.now.parts m result.size result.mass }
 {
-    glycans::cut(line, sheet.text_from(m), sheet.text_to(m))
+    glycans::cut(line, sheet.text_from(m), sheet.text_to(m)).unwrap()
 }
 
 // The short text, so that it ends before a place. Answers where it begins.
@@ -115,13 +74,14 @@ fn store_part(
     bytes: &mut Bytes,
     numbers: &mut Numbers,
 ) -> usize
-    requires { RowFits line.now sheet.now.parts sheet.now.masses m k j t bytes.old numbers.old }
+    requires { RowFits line.now sheet.now.parts sheet.now.masses m k j t }
     ensures { RowPut line.now sheet.now.parts sheet.now.masses m k j t bytes.old numbers.old result bytes.new numbers.new }
 {
     if is_composition(sheet, m) {
-        return store_composition(line, sheet, m, k, j, t, bytes, numbers);
+        store_composition(line, sheet, m, k, j, t, bytes, numbers)
+    } else {
+        store_noted(line, sheet, m, k, j, t, bytes, numbers)
     }
-    store_noted(line, sheet, m, k, j, t, bytes, numbers)
 }
 
 // The same of a composition: its short text, and its mass.
@@ -135,16 +95,16 @@ fn store_composition(
     bytes: &mut Bytes,
     numbers: &mut Numbers,
 ) -> usize
-    requires { ComposedFits line.now sheet.now.parts sheet.now.masses m k j t bytes.old numbers.old }
+    requires { ComposedFits line.now sheet.now.parts sheet.now.masses m k j t }
     ensures { RowPut line.now sheet.now.parts sheet.now.masses m k j t bytes.old numbers.old result bytes.new numbers.new }
 {
-    let label = sheet.label_from(m);
-    let l = sheet.label_to(m) - label;
+    let label = &line[sheet.label_from(m)..sheet.label_to(m)];
+    let l = label.len();
     let c = composition(line, sheet, m);
     let n = c.size;
     let behind = Tables::TEXTS + t + n;
     put_composition(line, sheet, m, bytes, behind);
-    copy(line, label, l, bytes, behind);
+    put(bytes, behind, label);
     let offset = offset_of(n + l, t);
     areas::put_part(
         bytes,
@@ -172,15 +132,15 @@ fn store_noted(
     bytes: &mut Bytes,
     numbers: &mut Numbers,
 ) -> usize
-    requires { NotedFits line.now sheet.now.parts sheet.now.masses m k j t bytes.old numbers.old }
+    requires { NotedFits line.now sheet.now.parts sheet.now.masses m k j t }
     ensures { RowPut line.now sheet.now.parts sheet.now.masses m k j t bytes.old numbers.old result bytes.new numbers.new }
 {
-    let text = sheet.text_from(m);
-    let n = sheet.text_to(m) - text;
-    let label = sheet.label_from(m);
-    let l = sheet.label_to(m) - label;
-    copy(line, text, n, bytes, Tables::TEXTS + t);
-    copy(line, label, l, bytes, Tables::TEXTS + t + n);
+    let text = &line[sheet.text_from(m)..sheet.text_to(m)];
+    let label = &line[sheet.label_from(m)..sheet.label_to(m)];
+    let n = text.len();
+    let l = label.len();
+    put(bytes, Tables::TEXTS + t, text);
+    put(bytes, Tables::TEXTS + t + n, label);
     let value = sheet.value_of(m) as u8;
     let key = sheet.key_of(m) as u8;
     let decimals = sheet.decimals_of(m) as u8;
@@ -204,11 +164,9 @@ fn store_parts(
     requires { SomePartsFit line.now sheet.now.parts sheet.now.masses m n k t bytes.old numbers.old }
     ensures { (ps : List (Part ℕ)) (a : Pieces) → PartsFit line.now sheet.now.parts sheet.now.masses m n k t ps a bytes.old numbers.old → PartsPut k t ps a result bytes.new numbers.new }
 {
-    let mut j: usize = 0;
     let mut u = t;
-    while j < n {
+    for j in 0..n {
         u = store_part(line, sheet, m + j, k, j, u, bytes, numbers);
-        j += 1;
     }
     u
 }
@@ -217,7 +175,7 @@ fn store_parts(
 
 // The head of bracket k.
 fn store_head(sheet: &Sheet, k: usize, bytes: &mut Bytes)
-    requires { HeadGoesIn sheet.now.heads k bytes.old }
+    requires { HeadGoesIn sheet.now.heads k }
     ensures { bytes.new ≡ sets bytes.old (row_at k) (head_from sheet.now.heads k) }
 {
     areas::put_head(
@@ -234,17 +192,15 @@ fn store_head(sheet: &Sheet, k: usize, bytes: &mut Bytes)
 
 // The n places that stand in the line from `at` on, as those of bracket k: how many, and the site of each.
 fn store_places(line: &[u8], at: usize, n: usize, k: usize, bytes: &mut Bytes)
-    requires { (ps : List (Place ℕ)) × PlacesFit line.now at n k ps bytes.old }
-    ensures { (ps : List (Place ℕ)) → PlacesFit line.now at n k ps bytes.old → bytes.new ≡ sets bytes.old (places_at k) (places_put ps) }
+    requires { (ps : List (Place ℕ)) × PlacesFit line.now at n k ps }
+    ensures { (ps : List (Place ℕ)) → PlacesFit line.now at n k ps → bytes.new ≡ sets bytes.old (places_at k) (places_put ps) }
 {
     areas::put_places(bytes, k, n as u8);
     let mut i = at;
-    let mut j: usize = 0;
-    while j < n {
+    for j in 0..n {
         let s = sites::site_at(line, i);
         areas::put_site(bytes, k, j, s.site);
         i = s.next + 1;
-        j += 1;
     }
 }
 
@@ -276,11 +232,9 @@ fn store_brackets(line: &[u8], sheet: &Sheet, n: usize, bytes: &mut Bytes, numbe
     requires { SomeBracketsFit line.now sheet.now.heads sheet.now.parts sheet.now.masses sheet.now.scores n bytes.old numbers.old }
     ensures { (ks : List (Bracket ℕ)) (a : Pieces) → BracketsFit line.now sheet.now.heads sheet.now.parts sheet.now.masses sheet.now.scores n ks a bytes.old numbers.old → BracketsPut ks a bytes.new numbers.new }
 {
-    let mut k: usize = 0;
     let mut t: usize = 0;
-    while k < n {
+    for k in 0..n {
         t = store_bracket(line, sheet, k, t, bytes, numbers);
-        k += 1;
     }
 }
 
@@ -288,12 +242,12 @@ fn store_brackets(line: &[u8], sheet: &Sheet, n: usize, bytes: &mut Bytes, numbe
 
 // The numbers of residues and brackets, the letters and the sections.
 fn store_front(sheet: &Sheet, residues: usize, brackets: usize, bytes: &mut Bytes)
-    requires { FrontFits sheet.now.letters sheet.now.sections residues brackets bytes.old }
+    requires { (residues ≤ residue_limit) × (brackets ≤ bracket_limit) }
     ensures { bytes.new ≡ front_put sheet.now.letters sheet.now.sections residues brackets bytes.old }
 {
     areas::put_counts(bytes, residues, brackets);
-    copy(&sheet.letters, 0, residues, bytes, Tables::LETTERS);
-    copy(&sheet.sections, 0, residues, bytes, Tables::SECTIONS);
+    put(bytes, Tables::LETTERS, &sheet.letters[..residues]);
+    put(bytes, Tables::SECTIONS, &sheet.sections[..residues]);
 }
 
 // The tables of an accepted line, from the sheet into areas whose room for them is zero.

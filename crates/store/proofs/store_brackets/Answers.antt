@@ -6,14 +6,11 @@ pub loop-k-init : goal.loop-k-init
 loop-k-init c = bracketing_start _ _ _ _ _ _ _ _
 
 pub store_bracket-t-requires : goal.store_bracket-t-requires
-store_bracket-t-requires c = bracketing_fits c.loop-k.invariant c.requires c.loop-k-test.true
-
-pub loop-k-smaller : goal.loop-k-smaller
-loop-k-smaller c = omega (arith, c.loop-k-test.true)
+store_bracket-t-requires c = bracketing_fits c.loop-k.invariant c.requires (omega arith)
 
 pub loop-k-preserved : goal.loop-k-preserved
 loop-k-preserved c =
-    bracketing_next c.loop-k.invariant c.loop-k-test.true c.store_bracket-t.ensures c.store_bracket-t.auto.bytes c.store_bracket-t.auto.numbers
+    bracketing_next c.loop-k.invariant (omega arith) c.store_bracket-t.ensures
 
 pub returns : goal.returns
-returns c = bracketing_end c.loop-k.invariant c.loop-k-test.false
+returns c = bracketing_end c.loop-k.invariant (omega arith)

@@ -5,4 +5,4 @@ use Rattle.store.proofs.store_front.Goals as goal
 pub returns : goal.returns
 returns c =
     let a = c.args in
-    front_put_lem a.sheet.now.letters a.sheet.now.sections a.residues a.brackets a.bytes.now c.put_counts.ensures c.copy.ensures c.copy-2.ensures
+    front_put_lem a.sheet.now.letters a.sheet.now.sections a.residues a.brackets a.bytes.now c.put_counts.ensures c.put.ensures c.put-2.ensures

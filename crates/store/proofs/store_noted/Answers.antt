@@ -8,10 +8,7 @@ put_part-requires c =
     let h = c.requires.fits in
     search rules
 
-pub put_mass-requires : goal.put_mass-requires
-put_mass-requires c = (c.requires.fits.numbers_long, c.requires.fits.few_brackets_lem, c.requires.fits.few_parts_lem)
-
 pub returns : goal.returns
 returns c =
-    noted_put c.requires.fits c.requires.plain c.text_from-text.ensures.0 c.text_to.ensures.0 c.label_from-label.ensures.0 c.label_to.ensures.0 c.copy.ensures c.copy-2.ensures
+    noted_put c.requires.fits c.requires.plain c.text_from.ensures.0 c.text_to.ensures.0 c.label_from.ensures.0 c.label_to.ensures.0 c.put.ensures c.put-2.ensures
     c.value_of-value.ensures.0 c.key_of-key.ensures.0 c.decimals_of-decimals.ensures.0 c.offset_of-offset.ensures.0 c.put_part.ensures (back _ c.mass_of.type_inv c.mass_of.ensures) c.put_mass.ensures

@@ -6,13 +6,10 @@ pub loop-j-init : goal.loop-j-init
 loop-j-init c = parting_start _ _ _ _ _ _ _ _ _
 
 pub store_part-u-requires : goal.store_part-u-requires
-store_part-u-requires c = parting_fits c.loop-j.invariant c.requires c.loop-j-test.true
-
-pub loop-j-smaller : goal.loop-j-smaller
-loop-j-smaller c = omega (arith, c.loop-j-test.true)
+store_part-u-requires c = parting_fits c.loop-j.invariant c.requires (omega arith)
 
 pub loop-j-preserved : goal.loop-j-preserved
-loop-j-preserved c = parting_next c.loop-j.invariant c.loop-j-test.true c.store_part-u.ensures
+loop-j-preserved c = parting_next c.loop-j.invariant (omega arith) c.store_part-u.ensures
 
 pub returns : goal.returns
-returns c = parting_end c.loop-j.invariant c.loop-j-test.false
+returns c = parting_end c.loop-j.invariant (omega arith)

@@ -1,10 +1,6 @@
 -- `store::store_places` meets its contract: the site of one place after another. Assumes nothing.
-use Prim.Native.Nat.{◌-◌}
 use Rattle.store.proofs.PlacesLaws.{StoringPlaces}
 use Rattle.store.proofs.store_places.Given as goal
 
 abbrev pub invariant-loop-j : goal.invariant-loop-j
 invariant-loop-j l = StoringPlaces l.line l.at l.n l.k l.initial.bytes l.i l.j l.bytes
-
-abbrev pub decreases-loop-j : goal.decreases-loop-j
-decreases-loop-j l = l.n - l.j

@@ -1,6 +1,6 @@
 -- What a value that was found says of its part, and so what is due of it. Assumes nothing.
 use mathlib.Core.Path.{◌≡◌, refl, sym, ap, ap₂, subst, ◌∙◌}
-use mathlib.Core.Bool.{Bool, true, false, not, cond, ◌&&◌, ◌||◌, and-false, or-false}
+use mathlib.Core.Bool.{Bool, true, false, not, cond, ◌&&◌, ◌||◌, and-false, or-false, true≢false}
 use mathlib.Core.Option.{Option, none, some}
 use mathlib.Core.List.{List, [], ◌++◌, map, append-nil}
 use Prim.Native.Nat.{ℕ, ◌+◌, ◌-◌, ◌<◌, ◌≤◌, min}
@@ -15,11 +15,12 @@ use Rattle.scope.specs.Bytes.{is_digit, same_folded}
 use Rattle.scope.specs.Glycans.{cuttings, cuttings_up_to}
 use Rattle.scope.specs.Keys.{key_code, written}
 use Rattle.scope.specs.Limits.{text_limit}
-use Rattle.std.specs.Prelude.{Option as Perhaps, Some, None}
+use Rattle.std.specs.Prelude.{Option as Perhaps, Some, None, is_some, is_none}
 use Rattle.scope.specs.Line.{Value as Written, mass, text, reference, composition, Part}
 use Rattle.scope.specs.Lists.{part, none?, all}
 use Rattle.scope.specs.Refusals.{due_at, least, text_in, text_of, is_rule_name, too_deep, in_range, wide_mass}
 use Rattle.reading_laws.proofs.Inside.{under_least, under_deep}
+use Rattle.glycans.specs.declared.Cutting.{Cutting}
 use Rattle.glycans.specs.Cut.{CutIs}
 use Rattle.glycans.specs.Kept.{is_uncut_lem}
 use Rattle.values.specs.declared.Value.{Value}
@@ -34,6 +35,13 @@ use Rattle.dues.specs.Ranks.{code, lowest}
 use Rattle.dues.specs.First.{lowest_append}
 use Rattle.dues.specs.Lines.{deep_rank, over_rank, wide_rank, barred_rank, digits_rank, uncut_rank, part_codes}
 use Rattle.dues.specs.Steps.{barred_key, key_codes, name_codes, text_codes, of_value}
+
+-- a composition that is not there, as the program asks for it
+none_told : (cut : Perhaps Cutting) (x : Bool) → is_some cut ≡ not x → x ≡ is_none cut
+none_told None true e = refl
+none_told None false e = absurd (true≢false (sym e))
+none_told (Some c) true e = absurd (true≢false e)
+none_told (Some c) false e = refl
 
 -- ---- what is due of a text, by the code k of its key
 module _ (m k i : ℕ) (t : List ℕ) where
@@ -228,9 +236,9 @@ module _ (line : List ℕ) (at : ℕ) (v : Value) (q : Part ℕ) (g : IsValue li
     pub due_none : key_code R ≤ k → k < key_code Formula → b ≡ lowest n (text_codes key_of q.at behind (text_of q))
     due_none s f = name_none b k at _ s f ∙ here
 
-    pub due_uncut : {r : ℕ} {cut : Bool} {size weight pieces : ℕ} → k ≡ key_code Glycan → CutIs (part v.from (v.to - v.from) line) cut size weight pieces
-        → r ≡ lowest b (map (code uncut_rank) (due_at (not cut) at)) → r ≡ lowest n (text_codes key_of q.at behind (text_of q))
-    due_uncut e c w = w ∙ name_uncut b k at _ e (sym (is_uncut_lem c)) ∙ here
+    pub due_uncut : {r : ℕ} (cut : Perhaps Cutting) (x : Bool) → k ≡ key_code Glycan → CutIs (part v.from (v.to - v.from) line) cut → is_some cut ≡ not x
+        → r ≡ lowest b (map (code uncut_rank) (due_at x at)) → r ≡ lowest n (text_codes key_of q.at behind (text_of q))
+    due_uncut cut x e c f w = w ∙ name_uncut b k at _ e (none_told cut x f ∙ sym (is_uncut_lem _ cut c)) ∙ here
 
     pub due_barred : {r : ℕ} → key_code Formula ≤ k → (k ≡ key_code Glycan → ⊥) → r ≡ min (code barred_rank at) b
         → r ≡ lowest n (text_codes key_of q.at behind (text_of q))

@@ -6,6 +6,7 @@ ghost use Rattle.scope.specs.Bytes.{wide_limit, is_digit};
 ghost use Rattle.scope.specs.Keys.{key_code, written};
 ghost use Rattle.scope.specs.Line.{Line, Part, Label as Written};
 ghost use Rattle.scope.specs.Lists.{none?, all, part};
+ghost use Rattle.scope.specs.Answers.{reason_number};
 ghost use Rattle.scope.specs.Refusals.{due_at, least as first, line_refusals, text_of};
 ghost use Rattle.values.specs.Says.{IsValue, coded};
 ghost use Rattle.labels.specs.Says.{IsLabel};
@@ -16,14 +17,26 @@ ghost use Rattle.dues.specs.Found.{PlaceFits, wide_body, wide_score, ValueFound,
 
 use labels::{Label, Score};
 use scope::grammar::Key;
+use scope::refusals::Reason;
 use scope::tables::Tables;
 use values::{Body, Value};
 
 // how many places there are for each rank
 const PLACES: usize = 65536;
 
-// The refusals that are tried behind 4, in the order of trying: the number of each.
-const NUMBERS: [u8; RANKS] = [5, 6, 7, 8, 9, 10, 21, 11, 12, 19];
+// The refusals that are tried behind 4, in the order of trying.
+const REASONS: [Reason; RANKS] = [
+    Reason::Deep,
+    Reason::TooMany,
+    Reason::OutOfRange,
+    Reason::NotTaken,
+    Reason::DigitsOnly,
+    Reason::OnlyInfo,
+    Reason::InfoDeclared,
+    Reason::Labels,
+    Reason::Copies,
+    Reason::Uncut,
+];
 
 const RANKS: usize = 10;
 
@@ -81,12 +94,12 @@ pub fn first_due(least: usize, rank: usize, place: Option<usize>) -> usize
     }
 }
 
-// The number of the refusal that a code is due for.
-pub fn number_of(c: usize) -> u8
+// The reason that a code is due for.
+pub fn reason_of(c: usize) -> Reason
     requires { (l : Line ℕ) → c < no_code (line_refusals l) }
-    ensures { (l : Line ℕ) → result ≡ number_at (line_refusals l) (c / wide_limit) }
+    ensures { (l : Line ℕ) → reason_number result ≡ number_at (line_refusals l) (c / wide_limit) }
 {
-    NUMBERS[c / PLACES]
+    REASONS[c / PLACES]
 }
 
 // Its place.
@@ -134,7 +147,7 @@ fn text_due(line: &[u8], least: usize, at: usize, v: Value, deep: Option<usize>)
     match v.key {
         Key::NoKey => due_if(b, words::is_rule(line, from, to), BARRED, at),
         Key::U | Key::M => due_if(b, is_number(line, from, to), DIGITS, at),
-        Key::Glycan => due_if(b, !glycans::cut(line, from, to).cut, UNCUT, at),
+        Key::Glycan => due_if(b, glycans::cut(line, from, to).is_none(), UNCUT, at),
         Key::Formula | Key::Position | Key::Limit => due(b, BARRED, at),
         _ => b,
     }

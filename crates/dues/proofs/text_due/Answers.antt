@@ -34,7 +34,7 @@ returns-in-NoKey c =
 
 pub returns-in-Glycan : goal.returns-in-Glycan
 returns-in-Glycan c =
-    λ q g. due_uncut _ _ _ q g _ c.requires.1 _ c.first_due-a.ensures c.due_if-b.ensures (ap key_code c.in-Glycan.is) c.cut.ensures c.due_if-in-Glycan.ensures
+    λ q g. due_uncut _ _ _ q g _ c.requires.1 _ c.first_due-a.ensures c.due_if-b.ensures c.cut.result c.is_none.result (ap key_code c.in-Glycan.is) c.cut.ensures c.is_none.ensures c.due_if-in-Glycan.ensures
 
 pub returns-in-U : goal.returns-in-U
 returns-in-U c =

@@ -7,7 +7,6 @@ ghost use Rattle.blocks.specs.Block.{content_at, content_room, block_kind, entry
 ghost use Rattle.blocks.specs.Area.{whole_blocks, block_at, sound_at, all_sound, carries, firsts, is_free, put_at};
 ghost use Rattle.blocks.specs.Chain.{links};
 ghost use Rattle.blocks.specs.Answers.{is_head};
-ghost use Rattle.blocks.specs.Sizes.{chain_room};
 ghost use Rattle.chains.specs.Whole.{is_first_of, FirstOf};
 ghost use Rattle.chains.specs.Says.{how_many, Gathers};
 
@@ -16,7 +15,10 @@ mod borrowed;
 pub use crate::borrowed::{Area, Chain};
 use scope::blocks::Block;
 
-// The sound first blocks of an entry.
+// The room that the content of a chain takes.
+pub const ROOM: usize = Block::CHAIN * Block::ROOM;
+
+// The sound first blocks of an entry: none, one, or more, which are not told apart and are no value.
 #[derive(Clone, Copy, Debug, PartialEq, Eq)]
 pub enum Firsts {
     Nothing,
@@ -25,8 +27,8 @@ pub enum Firsts {
 }
 
 impl Chain {
-    // Its blocks.
-    pub fn blocks(&self) -> &[u8]
+    // Its blocks, in order.
+    pub fn in_order(&self) -> &[u8]
         ensures { result.now ≡ take self.now.many self.now.row }
     {
         &self.row[..self.many]
@@ -62,7 +64,7 @@ impl<'a> Area<'a> {
         }
     }
 
-    // ---- one block
+    // ---- one block, by its number, which a byte of an area may hold too: so each asks that the area has it
 
     // Block b.
     fn block(&self, b: usize) -> &'a [u8; Block::SIZE]
@@ -169,7 +171,6 @@ impl<'a> Area<'a> {
 
     // The first sound first block of any entry from a block on.
     pub fn head_from(&self, from: usize) -> Option<usize>
-        requires { from ≤ self.now.blocks }
         ensures { FirstOf (is_head self.now.bytes.now) self.now.blocks from result }
     {
         (from..self.blocks).find(|&b| self.is_head(b))
@@ -179,8 +180,8 @@ impl<'a> Area<'a> {
 
     // The chain that begins with block `first`, its content in a row in the room; none where it is none as stated. A chain of more blocks than an entry takes has a
     // longer line than any, and one of more blocks than the area has meets a block twice.
-    pub fn gather(&self, number: u32, first: usize, room: &mut [u8]) -> Option<Chain>
-        requires { (first < self.now.blocks) × (length room.old ≡ chain_room) }
+    pub fn gather(&self, number: u32, first: usize, room: &mut [u8; ROOM]) -> Option<Chain>
+        requires { first < self.now.blocks }
         ensures { Gathers self.now.bytes.now number first result room.new }
     {
         let mut row = [0u8; Block::CHAIN];

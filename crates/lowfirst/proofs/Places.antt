@@ -1,11 +1,8 @@
--- Numbers in bytes at a place of a list: what stands there as the number of its bytes, and bytes stored one behind another as the list with them put there.
-use mathlib.Core.Path.{◌≡◌, refl, ap, ◌∙◌}
-use mathlib.Core.List.{List, [], ◌∷◌, append_assoc}
-use Prim.Native.Nat.{ℕ, suc, ◌+◌, ◌*◌, ◌/◌, ◌%◌, ◌≤◌, ◌<◌}
-use native.Mathlib.Omega.{arith}
-use native.Mathlib.Numerals.{add-one}
-use lib.ListN.{length, get_or, set, take, drop}
-use lib.Seq.{drop-cons, sets, sets-eq}
+-- Numbers in bytes at a place of a list: what stands there as the number of its bytes; the bytes of a number as std gives them; and bytes written over a part.
+use Rattle.std.proofs.Common.{◌≡◌, refl, ap, sym, ◌∙◌, List, ◌++◌, ℕ, suc, ◌+◌, ◌*◌, ◌<◌, length, get_or, take, drop, drop-cons, add-one}
+use Rattle.std.proofs.Math.Nat.{div-div-eq-div-mul}
+use Rattle.std.proofs.Math.Seq.{drop-drop}
+use Rattle.std.specs.Int.{to_le_bytes, w16, w32}
 use Rattle.scope.specs.Bytes.{byte_limit}
 use Rattle.scope.specs.Lists.{part}
 use Rattle.blocks.specs.LowFirst.{little, low_first}
@@ -24,26 +21,16 @@ unfolding little
 little_part l w i k h e = rw (e, add-one i, drop-cons l i 0)
 
 -- ---- written
--- bytes stored at the places at + j, at + (j + 1), ..
-abbrev pub stored : List ℕ → ℕ → ℕ → List ℕ → List ℕ
-stored l at j [] = l
-stored l at j (v ∷ vs) = stored (set l (at + j) v) at (suc j) vs
-
-stored_sets : (vs l : List ℕ) (at j : ℕ) → stored l at j vs ≡ sets l (at + j) vs
-stored_sets [] l at j = refl
-stored_sets (v ∷ vs) l at j =
-    let e : at + suc j ≡ suc (at + j) = omega arith in
-    stored_sets vs (set l (at + j) v) at (suc j) ∙ ap (λ i. sets (set l (at + j) v) i vs) e
-
-pub stored_put : (v : ℕ) (vs l : List ℕ) (at : ℕ) → at + suc (length vs) ≤ length l → stored (set l at v) at 1 vs ≡ put_at at (v ∷ vs) l
-stored_put v vs l at h =
-    stored_sets vs (set l at v) at 1 ∙ ap (λ i. sets (set l at v) i vs) (add-one at) ∙ sets-eq (v ∷ vs) l at h
-    ∙ append_assoc (take at l) (v ∷ vs) (drop (at + length (v ∷ vs)) l)
-
--- a number's bytes, the lowest at the place
-pub number_put : (w n : ℕ) (l : List ℕ) (at : ℕ) → at + suc w ≤ length l
-    → stored (set l at (n % byte_limit)) at 1 (low_first w (n / byte_limit)) ≡ put_at at (low_first (suc w) n) l
+pub low_two : (n : ℕ) → to_le_bytes w16 n ≡ low_first 2 n
 unfolding low_first
-number_put w n l at h =
-    let e : length (low_first w (n / byte_limit)) ≡ w = low_length w (n / byte_limit) in
-    stored_put (n % byte_limit) (low_first w (n / byte_limit)) l at (omega (arith, e))
+low_two n = refl
+
+pub low_four : (n : ℕ) → to_le_bytes w32 n ≡ low_first 4 n
+unfolding low_first
+low_four n = rw (div-div-eq-div-mul n byte_limit byte_limit, div-div-eq-div-mul n (byte_limit * byte_limit) byte_limit)
+
+-- a number's bytes over a part of as many
+pub low_put : (w n at k : ℕ) {x : List ℕ} (l : List ℕ) → x ≡ low_first w n → k ≡ w → take at l ++ (x ++ drop k (drop at l)) ≡ put_at at (low_first w n) l
+low_put w n at k l e f =
+    ap (λ x. take at l ++ (x ++ drop k (drop at l))) e
+    ∙ ap (λ r. take at l ++ (low_first w n ++ r)) (drop-drop k at l ∙ ap (λ i. drop (at + i) l) (f ∙ sym (low_length w n)))

@@ -1,6 +1,5 @@
 -- `lowfirst::four_at` meets its contract: the number of four bytes, byte by byte. Assumes nothing.
-use Prim.Native.Nat.{◌+◌}
-use native.Mathlib.Omega.{arith}
+use Rattle.std.proofs.Common.{◌+◌, arith}
 use Rattle.lowfirst.proofs.Places.{little_none, little_part}
 use Rattle.lowfirst.proofs.four_at.Goals as goal
 
@@ -13,4 +12,4 @@ returns c =
     let third = little_part s 1 (at + 2) (at + 3) (omega arith) (omega arith) in
     let fourth = little_part s 0 (at + 3) (at + 4) (omega arith) (omega arith) in
     let end = little_none s (at + 4) in
-    omega (arith, first, second, third, fourth, end)
+    omega (arith, c.from_le_bytes.ensures, first, second, third, fourth, end)

@@ -1,19 +1,8 @@
--- `lowfirst::put_four` meets its contract: the bytes of a number, stored one behind another. Assumes nothing.
-use native.Mathlib.Omega.{arith}
-use lib.ListN.{length-set}
-use Rattle.blocks.specs.LowFirst.{low_first}
-use Rattle.lowfirst.proofs.Places.{number_put}
+-- `lowfirst::put_four` meets its contract: the bytes of a number, over four bytes. Assumes nothing.
+use Rattle.std.proofs.Common.{◌∙◌, arith}
+use Rattle.lowfirst.proofs.Places.{low_four, low_put}
 use Rattle.lowfirst.proofs.put_four.Goals as goal
 
-pub bounds-s-at-2 : goal.bounds-s-at-2
-bounds-s-at-2 c = simp length-set (omega arith)
-
-pub bounds-s-at-3 : goal.bounds-s-at-3
-bounds-s-at-3 c = simp length-set (omega arith)
-
-pub bounds-s-at-4 : goal.bounds-s-at-4
-bounds-s-at-4 c = simp length-set (omega arith)
-
 pub returns : goal.returns
-unfolding low_first
-returns c = number_put 3 c.args.n c.args.s.now c.args.at c.requires
+returns c =
+    low_put 4 c.args.n c.args.at _ c.args.s.now (c.copy_from_slice.ensures.after ∙ c.to_le_bytes-bytes.ensures ∙ low_four c.args.n) (omega arith)

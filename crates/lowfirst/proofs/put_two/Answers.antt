@@ -1,13 +1,8 @@
--- `lowfirst::put_two` meets its contract: the bytes of a number, stored one behind another. Assumes nothing.
-use native.Mathlib.Omega.{arith}
-use lib.ListN.{length-set}
-use Rattle.blocks.specs.LowFirst.{low_first}
-use Rattle.lowfirst.proofs.Places.{number_put}
+-- `lowfirst::put_two` meets its contract: the bytes of a number, over two bytes. Assumes nothing.
+use Rattle.std.proofs.Common.{◌∙◌, arith}
+use Rattle.lowfirst.proofs.Places.{low_two, low_put}
 use Rattle.lowfirst.proofs.put_two.Goals as goal
 
-pub bounds-s-at-2 : goal.bounds-s-at-2
-bounds-s-at-2 c = simp length-set (omega arith)
-
 pub returns : goal.returns
-unfolding low_first
-returns c = number_put 1 c.args.n c.args.s.now c.args.at c.requires.1
+returns c =
+    low_put 2 c.args.n c.args.at _ c.args.s.now (c.copy_from_slice.ensures.after ∙ c.to_le_bytes-bytes.ensures ∙ low_two c.args.n) (omega arith)

@@ -1,6 +1,5 @@
 -- `lowfirst::two_at` meets its contract: the number of two bytes is the low one and 256 times the high one. Assumes nothing.
-use Prim.Native.Nat.{◌+◌}
-use native.Mathlib.Omega.{arith}
+use Rattle.std.proofs.Common.{◌+◌, arith}
 use Rattle.lowfirst.proofs.Places.{little_none, little_part}
 use Rattle.lowfirst.proofs.two_at.Goals as goal
 
@@ -11,4 +10,4 @@ returns c =
     let here = little_part s 1 at (at + 1) (omega arith) (omega arith) in
     let behind = little_part s 0 (at + 1) (at + 2) (omega arith) (omega arith) in
     let end = little_none s (at + 2) in
-    (omega (arith, here, behind, end), omega arith)
+    (omega (arith, c.from.ensures, c.from_le_bytes.ensures, here, behind, end), omega (arith, c.from.ensures))

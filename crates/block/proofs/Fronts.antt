@@ -1,10 +1,11 @@
 -- A block written from the front on: what stands before a place, when bytes are put there, grows by these bytes; and what is behind the sum's place is the sum.
 use mathlib.Core.Path.{◌≡◌, refl, sym, ap, ◌∙◌, subst}
 use mathlib.Core.List.{List, [], ◌∷◌, ◌++◌, append_assoc, append-nil}
-use Prim.Native.Nat.{ℕ, zero, suc, ◌+◌, ◌-◌, ◌≤◌, ◌<◌}
+use Prim.Native.Nat.{ℕ, suc, ◌+◌, ◌-◌, ◌≤◌, ◌<◌}
 use native.Mathlib.Omega.{arith}
+use Rattle.std.proofs.lemmas.List.{take-replicate}
 use lib.ListN.{length, set, take, drop, replicate, length-append, length-set, length-replicate, drop_of_length-le}
-use lib.Seq.{append_snoc, take_at, drop-drop, take-length, take-suc-set, length-take-le}
+use lib.Seq.{append_snoc, take_at, take-suc-set, length-take-le}
 use Rattle.scope.specs.Lists.{padded}
 use Rattle.scope.specs.Limits.{block_size}
 use Rattle.blocks.specs.LowFirst.{low_first}
@@ -62,26 +63,11 @@ sealed_put x h =
     ap (λ r. take sum_at x ++ (s ++ r)) (drop_of_length-le x {i = sum_at + length s} (omega (arith, e))) ∙ ap (λ r. take sum_at x ++ r) (append-nil s)
 
 -- ---- zeros
-pub drop_replicate : (n m z : ℕ) → drop n (replicate m z) ≡ replicate (m - n) z
-drop_replicate zero m z = let e : m ≡ m - 0 = omega arith in ap (λ k. replicate k z) e
-drop_replicate (suc n) zero z = let e : 0 ≡ 0 - suc n = omega arith in ap (λ k. replicate k z) e
-drop_replicate (suc n) (suc m) z = let e : m - n ≡ suc m - suc n = omega arith in drop_replicate n m z ∙ ap (λ k. replicate k z) e
-
--- a content over zeros
-pub content_padded : (n : ℕ) (c old : List ℕ) → length old ≡ n → take (length c) c ++ drop (length c) (replicate n 0 ++ drop n old) ≡ padded 0 n c
-content_padded n c old h =
-    ap (λ m. m ++ drop (length c) (replicate n 0 ++ drop n old)) (take-length c)
-    ∙ ap (λ m. c ++ drop (length c) (replicate n 0 ++ m)) (drop_of_length-le old {i = n} (omega arith))
-    ∙ ap (λ m. c ++ drop (length c) m) (append-nil (replicate n 0)) ∙ ap (λ m. c ++ m) (drop_replicate (length c) n 0)
-
 -- two bytes among zeros
-pub two_among_zeros : (n a b : ℕ) (rest : List ℕ) → take (suc (suc (suc (suc n)))) (set (set (replicate (suc (suc (suc (suc n)))) 0 ++ rest) 0 a) 3 b) ≡ a ∷ 0 ∷ 0 ∷ b ∷ replicate n 0
-two_among_zeros n a b rest = ap (λ l. a ∷ 0 ∷ 0 ∷ b ∷ l) (take_at (replicate n 0) rest n (length-replicate n 0))
+two_among_zeros : (n k a b : ℕ) → take (suc (suc (suc (suc n)))) (set (set (replicate (suc (suc (suc (suc (n + k))))) 0) 0 a) 3 b) ≡ a ∷ 0 ∷ 0 ∷ b ∷ replicate n 0
+two_among_zeros n k a b = ap (λ l. a ∷ 0 ∷ 0 ∷ b ∷ l) (take-replicate n (n + k) 0 (omega arith))
 
--- a part lent, filled and given back
-pub part_put : (at k : ℕ) (l x : List ℕ) → length x ≡ k → take at l ++ (x ++ drop k (drop at l)) ≡ put_at at x l
-part_put at k l x e = ap (λ r. take at l ++ (x ++ r)) (drop-drop k at l ∙ ap (λ n. drop (at + n) l) (sym e))
-
+-- a content with zeros behind it
 pub padded_length : (n : ℕ) (c : List ℕ) → length c ≤ n → length (padded 0 n c) ≡ n
 padded_length n c h =
     let whole = length-append c (replicate (n - length c) 0) in
@@ -108,10 +94,11 @@ front_written kind used next number l m n h e f =
     ap (λ k. take k n) end ∙ fourth.is ∙ append_snoc upto next (low_first number_size number)
 
 -- a free block
-pub free_written : (l m : List ℕ) → m ≡ replicate sum_at 0 ++ drop sum_at l → sealed (take sum_at (set (set m 0 free_kind) next_at no_next)) ≡ free_block
+pub free_written : (n : ℕ) {m : List ℕ} → m ≡ replicate n 0 → n ≡ block_size → sealed (take sum_at (set (set m 0 free_kind) next_at no_next)) ≡ free_block
 unfolding free_block
-free_written l m e =
-    ap (λ k. sealed (take sum_at (set (set k 0 free_kind) next_at no_next))) e ∙ ap sealed (two_among_zeros (sum_at - number_at) free_kind no_next (drop sum_at l))
+free_written n e h =
+    ap (λ k. sealed (take sum_at (set (set k 0 free_kind) next_at no_next))) (e ∙ ap (λ k. replicate k 0) h)
+    ∙ ap sealed (two_among_zeros (sum_at - number_at) sum_size free_kind no_next)
 
 -- a block of an entry
 pub entry_written : (kind number next : ℕ) (c l m : List ℕ) → take content_at l ≡ front_of kind (length c) next number → length l ≡ block_size → length c ≤ content_room

@@ -3,6 +3,7 @@ use mathlib.Core.Path.{◌≡◌, refl, sym, ap, ◌∙◌}
 use mathlib.Core.List.{List, [], ◌∷◌}
 use Prim.Native.Nat.{ℕ, suc, ◌+◌, ◌-◌, ◌*◌, ◌≤◌, ◌<◌}
 use native.Mathlib.Omega.{arith}
+use native.Mathlib.Numerals.{add-one}
 use native.Mathlib.Nat.{add-zero, zero-add}
 use lib.ListN.{length, get_or, take, drop, length-drop}
 use lib.Seq.{take-suc, take_all, length-take-le}
@@ -20,32 +21,21 @@ weight_more l i h =
     ap (weight 0) (take-suc l i 0 h) ∙ weight_append 0 (take i l) (get_or l i 0 ∷ [])
     ∙ ap (λ k. weight 0 (take i l) + (suc k * get_or l i 0 + 0)) e ∙ ap (λ x. weight 0 (take i l) + x) (add-zero (suc i * get_or l i 0))
 
--- ---- one byte's part
--- what it is at most
-abbrev pub term_most : ℕ
-term_most = sum_at * (byte_limit - 1)
-
--- ---- the loop: i bytes are summed
+-- ---- the loop: i bytes are summed, and each adds at most so much
 pub record SoFar (l : List ℕ) (total i : ℕ) : Type 0 where
-  pub inside : i ≤ sum_at
   pub is : total ≡ weight 0 (take i l)
-  pub small : total ≤ i * term_most
+  pub small : total ≤ i * (sum_at * (byte_limit - 1))
 
 pub sum_start : (l : List ℕ) → SoFar l 0 0
 unfolding weight
-sum_start l = record { inside = omega arith; is = refl; small = omega arith }
+sum_start l = record { is = refl; small = omega arith }
 
-pub sum_more : {l : List ℕ} {total i t : ℕ} → SoFar l total i → i < sum_at → sum_at ≤ length l → t ≡ suc i * get_or l i 0 → t ≤ term_most → SoFar l (total + t) (i + 1)
-sum_more {l} {total} {i} {t} h k long e s =
-    let next : suc i ≡ i + 1 = omega arith in
+pub sum_more : {l : List ℕ} {total i t : ℕ} → SoFar l total i → i < length l → t ≡ suc i * get_or l i 0 → t ≤ sum_at * (byte_limit - 1) → SoFar l (total + t) (i + 1)
+sum_more {l} {total} {i} {t} h k e s =
     record {
-      inside = omega arith;
-      is = ap (λ x. total + x) e ∙ ap (λ x. x + suc i * get_or l i 0) h.is ∙ sym (weight_more l i (omega arith)) ∙ ap (λ x. weight 0 (take x l)) next;
+      is = ap (λ x. total + x) e ∙ ap (λ x. x + suc i * get_or l i 0) h.is ∙ sym (weight_more l i k) ∙ ap (λ x. weight 0 (take x l)) (sym (add-one i));
       small = omega (arith, h.small);
     }
-
-pub sum_end : {l : List ℕ} {total i : ℕ} → SoFar l total i → sum_at ≤ i → total ≡ weight 0 (take sum_at l)
-sum_end {l} {total} {i} h k = let e : i ≡ sum_at = omega (arith, h.inside) in h.is ∙ ap (λ x. weight 0 (take x l)) e
 
 -- ---- the bytes of the sum are all that is left of the block
 pub sum_bytes : (x : List ℕ) → length x ≡ block_size → part sum_at sum_size x ≡ drop sum_at x

@@ -1,12 +1,7 @@
 -- What the tests of one block decide, over its bytes; and what is written before its content.
-use Rattle.std.specs.Prelude.{ℕ, ◌-◌, Bool, ◌&&◌, ◌||◌, List, ◌∷◌, ◌++◌, eqb}
-use Rattle.scope.specs.Lists.{all, part}
+use Rattle.std.specs.Prelude.{ℕ, Bool, ◌&&◌, ◌||◌, List, ◌∷◌, ◌++◌, eqb}
 use Rattle.blocks.specs.LowFirst.{low_first}
-use Rattle.blocks.specs.Block.{used_size, number_size, content_room, sum_at, block_kind, used_length, entry_number, is_last, is_padded, is_sound}
-
--- the bytes from a place on, up to the sum, are zero
-abbrev pub zero_from : List ℕ → ℕ → Bool
-zero_from x from = all (eqb 0) (part from (sum_at - from) x)
+use Rattle.blocks.specs.Block.{used_size, number_size, content_room, block_kind, used_length, entry_number, is_last, is_padded, is_sound}
 
 -- "every block but an entry's last full"
 abbrev pub full_or_last : List ℕ → Bool

@@ -1,13 +1,13 @@
-// One block, lent as a slice of its bytes: what it says, whether it is sound, and what is written into it.
+// One block, lent as its bytes: what it says, whether it is sound, and what is written into it.
 #![tactic(auto)]
 
 ghost use Rattle.std.specs.Prelude.{◌≡◌, ◌&&◌, suc, ◌+◌, ◌*◌, ◌≤◌, ◌<◌, eqb, length, take};
 ghost use Rattle.scope.specs.Bytes.{wide_limit};
 ghost use Rattle.scope.specs.Limits.{block_size};
-ghost use Rattle.scope.specs.Lists.{padded};
+ghost use Rattle.scope.specs.Lists.{all, padded};
 ghost use Rattle.blocks.specs.Block.{is_first, content_at, content_room, sum_at, block_kind, used_length, next_block, entry_number, is_last, is_padded, weight, is_sound, sealed, free_block, entry_block};
 ghost use Rattle.blocks.specs.Area.{put_at};
-ghost use Rattle.block.specs.Links.{zero_from, full_or_last, links_as, front_of};
+ghost use Rattle.block.specs.Links.{full_or_last, links_as, front_of};
 
 use scope::blocks::Block;
 
@@ -23,32 +23,28 @@ pub fn is_first(kind: u8) -> bool
 // ---- what it says
 
 // Its kind.
-pub fn kind(block: &[u8]) -> u8
-    requires { length block.now ≡ block_size }
+pub fn kind(block: &[u8; Block::SIZE]) -> u8
     ensures { result ≡ block_kind block.now }
 {
     block[0]
 }
 
 // How many bytes of content it says that it has.
-pub fn used(block: &[u8]) -> usize
-    requires { length block.now ≡ block_size }
+pub fn used(block: &[u8; Block::SIZE]) -> usize
     ensures { (result ≡ used_length block.now) × (result < wide_limit) }
 {
     lowfirst::two_at(block, Block::USED_AT)
 }
 
 // The block behind it in its entry, or `NONE`.
-pub fn next(block: &[u8]) -> u8
-    requires { length block.now ≡ block_size }
+pub fn next(block: &[u8; Block::SIZE]) -> u8
     ensures { result ≡ next_block block.now }
 {
     block[Block::NEXT_AT]
 }
 
 // Its entry's number.
-pub fn number(block: &[u8]) -> u32
-    requires { length block.now ≡ block_size }
+pub fn number(block: &[u8; Block::SIZE]) -> u32
     ensures { result ≡ entry_number block.now }
 {
     lowfirst::four_at(block, Block::NUMBER_AT)
@@ -61,107 +57,66 @@ fn term(i: usize, b: u8) -> u32
     requires { i < sum_at }
     ensures { (result ≡ suc i * b) × (result ≤ sum_at * 255) }
 {
-    let factor = i as u32 + 1;
-    let byte = b as u32;
-    factor * byte
+    (i as u32 + 1) * u32::from(b)
 }
 
-// "i from 0 to 507": how many bytes are summed
-const SUMMED: usize = Block::SUM_AT;
-
 // "the sum of (i+1) times byte i, i from 0 to 507"
-fn sum(block: &[u8]) -> u32
-    requires { sum_at ≤ length block.now }
-    ensures { result ≡ weight 0 (take sum_at block.now) }
+fn sum(summed: &[u8]) -> u32
+    requires { length summed.now ≡ sum_at }
+    ensures { result ≡ weight 0 summed.now }
 {
     let mut total: u32 = 0;
-    let mut i: usize = 0;
-    while i < SUMMED {
-        total += term(i, block[i]);
-        i += 1;
+    for (i, &b) in summed.iter().enumerate() {
+        total += term(i, b);
     }
     total
 }
 
 // Is it sound, in an area of n blocks?
-pub fn is_sound(block: &[u8], n: usize) -> bool
-    requires { length block.now ≡ block_size }
+pub fn is_sound(block: &[u8; Block::SIZE], n: usize) -> bool
     ensures { result ≡ is_sound n block.now }
 {
-    let noted = lowfirst::four_at(block, Block::SUM_AT);
-    if noted != sum(block) {
-        return false;
-    }
     let after = next(block);
-    if after == Block::NONE {
-        return true;
-    }
-    (after as usize) < n
+    lowfirst::four_at(block, Block::SUM_AT) == sum(&block[..Block::SUM_AT])
+        && (after == Block::NONE || usize::from(after) < n)
 }
 
 // Is it sound, with an entry's number? The sum is only worked out where the number is right.
-pub fn carries(block: &[u8], n: usize, number: u32) -> bool
-    requires { length block.now ≡ block_size }
-    ensures { result ≡ (eqb (entry_number block.now) number && is_sound n block.now) }
+pub fn carries(block: &[u8; Block::SIZE], n: usize, expected: u32) -> bool
+    ensures { result ≡ (eqb (entry_number block.now) expected && is_sound n block.now) }
 {
-    if lowfirst::four_at(block, Block::NUMBER_AT) == number {
-        return is_sound(block, n);
-    }
-    false
+    number(block) == expected && is_sound(block, n)
 }
 
 // ---- content as stated
 
-// Are all bytes from a place on, up to the sum, zero?
-fn is_zero_from(block: &[u8], from: usize) -> bool
-    requires { (length block.now ≡ block_size) × (from ≤ sum_at) }
-    ensures { result ≡ zero_from block.now from }
+// Are these bytes all zero? All are looked at, many at a time.
+fn are_zero(bytes: &[u8]) -> bool
+    ensures { result ≡ all (eqb 0) bytes.now }
 {
-    let mut so = true;
-    let mut i = from;
-    while i < Block::SUM_AT {
-        so = so & (block[i] == 0);
-        i += 1;
-    }
-    so
+    bytes.iter().copied().fold(true, |so, b| so & (b == 0))
 }
 
 // "zero past the used length"
-fn is_padded(block: &[u8]) -> bool
-    requires { length block.now ≡ block_size }
+fn is_padded(block: &[u8; Block::SIZE]) -> bool
     ensures { result ≡ is_padded block.now }
 {
     let m = used(block);
-    if Block::ROOM < m {
-        return false;
-    }
-    is_zero_from(block, Block::CONTENT_AT + m)
+    m <= Block::ROOM && are_zero(&block[Block::CONTENT_AT + m..Block::SUM_AT])
 }
 
 // "every block but an entry's last full"
-fn is_full_or_last(block: &[u8]) -> bool
-    requires { length block.now ≡ block_size }
+fn is_full_or_last(block: &[u8; Block::SIZE]) -> bool
     ensures { result ≡ full_or_last block.now }
 {
-    if next(block) == Block::NONE {
-        return true;
-    }
-    used(block) == Block::ROOM
+    next(block) == Block::NONE || used(block) == Block::ROOM
 }
 
 // May it stand in the chain of an entry, of n blocks in all, as a block of this kind?
-pub fn links(block: &[u8], n: usize, number: u32, k: u8) -> bool
-    requires { length block.now ≡ block_size }
-    ensures { result ≡ links_as n number k block.now }
+pub fn links(block: &[u8; Block::SIZE], n: usize, expected: u32, k: u8) -> bool
+    ensures { result ≡ links_as n expected k block.now }
 {
-    if kind(block) == k {
-        if carries(block, n, number) {
-            if is_padded(block) {
-                return is_full_or_last(block);
-            }
-        }
-    }
-    false
+    kind(block) == k && carries(block, n, expected) && is_padded(block) && is_full_or_last(block)
 }
 
 // ---- what is written
@@ -171,7 +126,7 @@ fn seal(block: &mut [u8])
     requires { length block.old ≡ block_size }
     ensures { block.new ≡ sealed (take sum_at block.old) }
 {
-    let total = sum(block);
+    let total = sum(&block[..Block::SUM_AT]);
     lowfirst::put_four(total, block, Block::SUM_AT);
 }
 
@@ -180,7 +135,7 @@ pub fn make_free(block: &mut [u8])
     requires { length block.old ≡ block_size }
     ensures { block.new ≡ free_block }
 {
-    store::zero_bytes(block, Block::SUM_AT);
+    block.fill(0);
     block[0] = Block::FREE;
     block[Block::NEXT_AT] = Block::NONE;
     seal(block);
@@ -202,8 +157,8 @@ fn fill_room(room: &mut [u8], content: &[u8])
     requires { (length room.old ≡ content_room) × (length content.now ≤ content_room) }
     ensures { room.new ≡ padded 0 content_room content.now }
 {
-    store::zero_bytes(room, Block::ROOM);
-    bounds::copy_bytes(content, content.len(), room);
+    room.fill(0);
+    room[..content.len()].copy_from_slice(content);
 }
 
 // The content, and zeros behind it.

@@ -24,7 +24,7 @@ use Rattle.blocks.specs.Entry.{position_bytes, is_stated, damaged, whole, starti
 use Rattle.blocks.specs.Sizes.{chain_most, chain_room}
 use Rattle.chains.specs.Whole.{Whole}
 use Rattle.chains.specs.Says.{GatheredSays}
-use Rattle.chains.proofs.Content.{content_long}
+use Rattle.chains.proofs.Lent.{content_long}
 use Rattle.chains.proofs.TooLong.{not_stated}
 
 -- ---- what a block that links says
@@ -165,18 +165,6 @@ following_start {a} {n} {number} {first} room blocks w h e l r q =
       row = q;
     }
 
--- no chain: nothing was gathered
-pub gathered_none : {a : List ℕ} {number first many long : ℕ} (blocks content : List ℕ) → starting_at a number first ≡ damaged → many ≡ 0 → long ≡ 0
-    → GatheredSays a number first many long blocks content
-gathered_none {a} blocks content e z l =
-    record {
-      none = λ _. e;
-      some = λ h. absurd (omega arith);
-      few = omega arith;
-      fits = omega arith;
-      inside = subst (λ m. Each (λ b. b < blocks_in a) (take m blocks)) (sym z) tt;
-    }
-
 module _ {a : List ℕ} {n number first most : ℕ} {room blocks : List ℕ} {kind b k : ℕ} (w : Following a n number first most room blocks kind b k) where
   -- the entry, by the chain from here on
   starting : {o : Option Chain} → follow (n - k) a number kind b ≡ o
@@ -239,9 +227,6 @@ module _ {a : List ℕ} {n number first most : ℕ} {room blocks : List ℕ} {ki
           → GatheredSays a number first (k + 1) (k * content_room + m) (set blocks k b) room'
       gathered q f =
           let x = block_at a b in
-          let fits = content_fits in
-          let long = w.long in
-          let low = w.low in
           let high = w.high in
           let last : is_last x ≡ true = eq-eqb (next_block x) no_next (sym q ∙ f) in
           let ending = follow_last a number kind b (n - k) (n - (k + 1)) (omega arith) (sym told ∙ yes) last in
@@ -251,10 +236,7 @@ module _ {a : List ℕ} {n number first most : ℕ} {room blocks : List ℕ} {ki
           ∙ prefixed_last (take k blocks) (take (k * content_room) room) b x
           ∙ ap₂ (λ l c. some (record { blocks = l; content = c })) (sym blocks_more) (sym content_more) in
           record {
-            none = λ z. absurd (omega arith);
-            some = λ _. ap (λ i. follow i a number (block_kind (block_at a first)) first) w.area.many ∙ chain;
-            few = omega arith;
-            fits = omega arith;
+            chain = ap (λ i. follow i a number (block_kind (block_at a first)) first) w.area.many ∙ chain;
             inside = subst (λ i. Each (λ y. y < i) (take (k + 1) (set blocks k b))) (sym w.area.many) inside_more;
           }
 

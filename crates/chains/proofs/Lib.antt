@@ -1,4 +1,3 @@
 pub mod Lent
-pub mod Content
 pub mod TooLong
 pub mod Following

@@ -2,7 +2,7 @@
 -- chain that was gathered.
 use Rattle.std.proofs.Math.Path.{◌≡◌, refl, ap}
 use Rattle.std.proofs.Common.{sym, ◌∙◌, subst, arith}
-use Rattle.std.specs.Prelude.{cond, ℕ, ◌+◌, ◌<◌, take}
+use Rattle.std.specs.Prelude.{cond, ℕ, ◌+◌, ◌<◌, take, Some, None}
 use mathlib.Core.List.{List, [], ◌∷◌}
 use Rattle.scope.specs.Lists.{keep, tabled}
 use Rattle.basics.specs.Choice.{pick_some}
@@ -11,7 +11,7 @@ use Rattle.blocks.specs.Block.{block_kind}
 use Rattle.blocks.specs.Area.{blocks_in, block_at, block_numbers, all_sound, firsts}
 use Rattle.blocks.specs.Entry.{absent, damaged, whole, starting_at, by_firsts, look}
 use Rattle.chains.specs.declared.Firsts.TheVariants.{Nothing, One, Several}
-use Rattle.chains.specs.Whole.{Whole, is_first_of, NextOf}
+use Rattle.chains.specs.Whole.{Whole, is_first_of, FirstOf}
 use Rattle.chains.specs.Nexts.{kept_from, next_kept, none_kept, kept_all}
 use Rattle.chains.specs.Says.{how_many, GatheredSays}
 
@@ -21,18 +21,18 @@ module _ {a : List ℕ} {n : ℕ} (w : Whole a n) (number : ℕ) where
   unfolding firsts
   firsts_kept = ap (λ m. keep (is_first_of a number) (tabled (λ b. b) 0 m)) w.many ∙ kept_all (is_first_of a number) n
 
-  pub found_none : {b : ℕ} → NextOf (is_first_of a number) n 0 b → b ≡ n → Nothing ≡ how_many (firsts a number)
-  found_none {b} f e = sym (ap how_many (firsts_kept ∙ none_kept f (omega arith)))
+  pub found_none : FirstOf (is_first_of a number) n 0 None → Nothing ≡ how_many (firsts a number)
+  found_none f = sym (ap how_many (firsts_kept ∙ none_kept f))
 
-  module _ {b c : ℕ} (f : NextOf (is_first_of a number) n 0 b) (p : b ≡ n → ⊥) (g : NextOf (is_first_of a number) n (b + 1) c) where
+  module _ {b : ℕ} (f : FirstOf (is_first_of a number) n 0 (Some b)) where
     first_then : firsts a number ≡ b ∷ kept_from (is_first_of a number) n (b + 1)
-    first_then = let high = f.high in firsts_kept ∙ next_kept f (omega arith)
+    first_then = firsts_kept ∙ next_kept f.0 f.1 f.2 f.3
 
-    pub found_one : c ≡ n → One b ≡ how_many (firsts a number)
-    found_one e = sym (ap how_many (first_then ∙ ap (λ l. b ∷ l) (none_kept g (omega arith))))
+    pub found_one : FirstOf (is_first_of a number) n (b + 1) None → One b ≡ how_many (firsts a number)
+    found_one g = sym (ap how_many (first_then ∙ ap (λ l. b ∷ l) (none_kept g)))
 
-    pub found_several : (c ≡ n → ⊥) → Several ≡ how_many (firsts a number)
-    found_several q = let high = g.high in sym (ap how_many (first_then ∙ ap (λ l. b ∷ l) (next_kept g (omega arith))))
+    pub found_several : {c : ℕ} → FirstOf (is_first_of a number) n (b + 1) (Some c) → Several ≡ how_many (firsts a number)
+    found_several g = sym (ap how_many (first_then ∙ ap (λ l. b ∷ l) (next_kept g.0 g.1 g.2 g.3)))
 
 -- ---- which they are
 pub firsts_inside : (a : List ℕ) (number : ℕ) → Each (λ b. b < blocks_in a) (firsts a number)
@@ -74,7 +74,7 @@ module _ (a : List ℕ) (number : ℕ) where
       several (b ∷ c ∷ l) e = refl
 
 -- a chain was gathered: the entry is its content, where that is as stated
-pub gathered_whole : {a : List ℕ} {number first many long : ℕ} {blocks content : List ℕ} → GatheredSays a number first many long blocks content → 0 < many
+pub gathered_whole : {a : List ℕ} {number first many long : ℕ} {blocks content : List ℕ} → GatheredSays a number first many long blocks content
     → starting_at a number first ≡ whole (block_kind (block_at a first)) (record { blocks = take many blocks; content = take long content })
-gathered_whole {a} {number} {first} {many} {long} {blocks} {content} w h =
-    pick_some _ (whole (block_kind (block_at a first))) damaged (record { blocks = take many blocks; content = take long content }) (w.some h)
+gathered_whole {a} {number} {first} {many} {long} {blocks} {content} w =
+    pick_some _ (whole (block_kind (block_at a first))) damaged (record { blocks = take many blocks; content = take long content }) w.chain

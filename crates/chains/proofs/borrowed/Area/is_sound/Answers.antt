@@ -1,0 +1,7 @@
+-- `chains::Area::is_sound` meets its contract: what is told of the bytes of a block, in an area of so many. Assumes nothing.
+use Rattle.blocks.specs.Area.{sound_at}
+use Rattle.chains.proofs.borrowed.Area.is_sound.Goals as goal
+
+pub returns : goal.returns
+unfolding sound_at
+returns c = let many = c.args.self.now.whole.many in cc

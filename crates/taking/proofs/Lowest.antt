@@ -4,15 +4,16 @@ use mathlib.Core.List.{List, [], ◌∷◌, ◌++◌}
 use Prim.Native.Nat.{ℕ, ◌+◌, ◌≤◌, ◌<◌}
 use native.Mathlib.Omega.{arith}
 use native.Mathlib.Numerals.{add-one}
+use Rattle.std.specs.Prelude.{Some, None}
 use lib.ListN.{length, take, set, length-append, length-set}
 use lib.Seq.{take_at, take-suc-set, append_snoc, length-take-le}
 use Rattle.scope.specs.Lists.{keep, tabled}
 use Rattle.basics.specs.Each.{Each, each_snoc}
 use Rattle.blocks.specs.Area.{blocks_in, is_free, frees}
 use Rattle.blocks.specs.Sizes.{chain_most}
-use Rattle.chains.specs.Whole.{Whole, NextOf}
+use Rattle.chains.specs.Whole.{Whole, FirstOf}
 use Rattle.chains.specs.Nexts.{kept_from, next_kept, none_kept, kept_all}
-use Rattle.taking.specs.Says.{FreesAre}
+use Rattle.taking.specs.Says.{LowestFree, Inside}
 
 -- those from a block on
 abbrev pub frees_from : List ℕ → ℕ → ℕ → List ℕ
@@ -38,19 +39,19 @@ module _ {a : List ℕ} {n need : ℕ} where
       }
 
   module _ {from k : ℕ} {blocks : List ℕ} (w : Taken a n need from k blocks) (room : need ≤ chain_most) where
-    pub taken_more : {b : ℕ} → Whole a n → k < need → NextOf (is_free a) n from b → b < n → Taken a n need (b + 1) (k + 1) (set blocks k b)
-    taken_more {b} whole h next l =
+    pub taken_more : {b : ℕ} → Whole a n → k < need → FirstOf (is_free a) n from (Some b) → Taken a n need (b + 1) (k + 1) (set blocks k b)
+    taken_more {b} whole h next =
         let front : take (k + 1) (set blocks k b) ≡ take k blocks ++ (b ∷ []) =
         ap (λ i. take i (set blocks k b)) (add-one k) ∙ take-suc-set blocks k b (omega (arith, w.long)) in
         record {
-          upto = omega arith;
+          upto = omega (arith, next.1);
           few = omega arith;
           long = length-set blocks k b ∙ w.long;
           all =
               ap (λ m. m ++ frees_from a n (b + 1)) front ∙ append_snoc (take k blocks) b (frees_from a n (b + 1))
-              ∙ ap (λ m. take k blocks ++ m) (sym (next_kept next l)) ∙ w.all;
+              ∙ ap (λ m. take k blocks ++ m) (sym (next_kept next.0 next.1 next.2 next.3)) ∙ w.all;
           inside =
-              subst (Each (λ x. x < blocks_in a)) (sym front) (each_snoc (λ x. x < blocks_in a) (take k blocks) b w.inside (omega (arith, whole.many)));
+              subst (Each (λ x. x < blocks_in a)) (sym front) (each_snoc (λ x. x < blocks_in a) (take k blocks) b w.inside (omega (arith, next.1, whole.many)));
         }
 
     taken_long : k + length (frees_from a n from) ≡ length (frees a)
@@ -60,26 +61,14 @@ module _ {a : List ℕ} {n need : ℕ} where
         omega (arith, front, whole, ap length w.all)
 
     -- none is left
-    pub taken_short : {b : ℕ} → k < need → NextOf (is_free a) n from b → b ≡ n → FreesAre a need k blocks
-    taken_short {b} h next e =
-        let none = ap length (none_kept next (omega (arith, e))) in
-        record {
-          enough = λ q. absurd (omega arith);
-          short = λ q. omega (arith, taken_long, none);
-          most = w.few;
-          inside = w.inside;
-        }
+    pub taken_short : k < need → FirstOf (is_free a) n from None → length (frees a) < need
+    taken_short h none = omega (arith, taken_long, ap length (none_kept none))
 
     -- as many as are needed
-    pub taken_enough : need ≤ k → FreesAre a need k blocks
+    pub taken_enough : need ≤ k → LowestFree a need blocks
     taken_enough h =
         let e : k ≡ need = omega (arith, w.few) in
         let front : length (take need blocks) ≡ need = length-take-le need blocks (omega (arith, w.long)) in
         let first : take need blocks ≡ take need (frees a) =
         sym (take_at (take need blocks) (frees_from a n from) need front) ∙ ap (λ i. take need (take i blocks ++ frees_from a n from)) (sym e) ∙ ap (take need) w.all in
-        record {
-          enough = λ q. (omega (arith, taken_long), first);
-          short = λ q. absurd (omega arith);
-          most = w.few;
-          inside = w.inside;
-        }
+        record { enough = omega (arith, taken_long); lowest = first; inside = subst (λ i. Inside a (take i blocks)) e w.inside }

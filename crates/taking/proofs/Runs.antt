@@ -1,5 +1,5 @@
 -- Loops that put blocks anew: what is left to put, put into the area as it is now, gives the area at the end; and an area that is freed from the front on.
-use mathlib.Core.Path.{◌≡◌, refl, sym, ap, ◌∙◌, subst}
+use mathlib.Core.Path.{◌≡◌, refl, sym, ap, ◌∙◌}
 use mathlib.Core.List.{List, [], ◌∷◌, ◌++◌, append_assoc, append-nil}
 use Prim.Native.Nat.{ℕ, zero, suc, ◌+◌, ◌-◌, ◌*◌, ◌≤◌, ◌<◌}
 use native.Mathlib.Omega.{arith}
@@ -9,10 +9,10 @@ use Rattle.scope.specs.Lists.{part, tabled}
 use Rattle.scope.specs.Limits.{block_size}
 use Rattle.basics.specs.Tabled.{tabled_at, tabled_end, tabled_all}
 use Rattle.blocks.specs.Block.{content_room, new_kind, free_block, entry_block}
-use Rattle.blocks.specs.Area.{times, Put, put_at, replaced}
+use Rattle.blocks.specs.Area.{blocks_in, times, Put, put_at, replaced}
 use Rattle.blocks.specs.Answers.{blocks_for, pieces, next_in, written, freed}
 use Rattle.chains.specs.Whole.{Whole}
-use Rattle.area_laws.specs.Areas.{times_length}
+use Rattle.area_laws.specs.Areas.{times_length, put_long}
 use Rattle.area_laws.specs.Fields.{entry_length}
 use Rattle.taking.specs.Says.{kind_of}
 use Rattle.taking.proofs.Wholes.{whole_as, whole_put}
@@ -28,74 +28,68 @@ unfolding replaced
 replaced_first b x ps a = refl
 
 -- ---- blocks freed, and blocks written: `left k` are those from place k on
-pub record Putting (left : ℕ → List Put) (n many : ℕ) (old : List ℕ) (k : ℕ) (now : List ℕ) : Type 0 where
-  pub whole : Whole now n
-  pub upto : k ≤ many
+pub record Putting (left : ℕ → List Put) (old : List ℕ) (k : ℕ) (now : List ℕ) : Type 0 where
   pub same : length now ≡ length old
   pub rest : replaced (left k) now ≡ replaced (left 0) old
 
-module _ {left : ℕ → List Put} {n many : ℕ} {old : List ℕ} where
-  pub putting_start : Whole old n → Putting left n many old 0 old
-  putting_start w = record { whole = w; upto = omega arith; same = refl; rest = refl }
+module _ {left : ℕ → List Put} {old : List ℕ} where
+  pub putting_start : Putting left old 0 old
+  putting_start = record { same = refl; rest = refl }
 
-  pub putting_more : {k : ℕ} {now new : List ℕ} (b : ℕ) (x : List ℕ) → Putting left n many old k now → k < many → left k ≡ record { block = b; bytes = x } ∷ left (k + 1) → b < n
-      → length x ≡ block_size → new ≡ put_at (block_size * b) x now → Putting left n many old (k + 1) new
-  putting_more {k} {now} {new} b x w h first inside long is =
-      let put : Whole (put_at (block_size * b) x now) n = whole_put b x w.whole inside long in
-      let same : length (put_at (block_size * b) x now) ≡ length old = put.long ∙ sym w.whole.long ∙ w.same in
+  pub putting_more : {k : ℕ} {now new : List ℕ} (b : ℕ) (x : List ℕ) → Putting left old k now → left k ≡ record { block = b; bytes = x } ∷ left (k + 1) → b < blocks_in old
+      → length x ≡ block_size → new ≡ put_at (block_size * b) x now → Putting left old (k + 1) new
+  putting_more {k} {now} {new} b x w first inside long is =
       record {
-        whole = subst (λ m. Whole m n) (sym is) put;
-        upto = omega arith;
-        same = ap length is ∙ same;
+        same = ap length is ∙ put_long (block_size * b) x now (omega (arith, w.same)) ∙ w.same;
         rest = ap (replaced (left (k + 1))) is ∙ sym (replaced_first b x (left (k + 1)) now) ∙ ap (λ ps. replaced ps now) (sym first) ∙ w.rest;
       }
 
-  pub putting_end : {k : ℕ} {now : List ℕ} → Putting left n many old k now → left k ≡ [] → now ≡ replaced (left 0) old
+  pub putting_end : {k : ℕ} {now : List ℕ} → Putting left old k now → left k ≡ [] → now ≡ replaced (left 0) old
   putting_end {k} {now} w e = sym (replaced_none now) ∙ ap (λ ps. replaced ps now) (sym e) ∙ w.rest
 
 -- ---- a chain made free
-abbrev pub free_left : List ℕ → ℕ → ℕ → List Put
-free_left blocks many k = freed (drop k (take many blocks))
+abbrev pub free_left : List ℕ → ℕ → List Put
+free_left blocks k = freed (drop k blocks)
 
-module _ (blocks : List ℕ) (many k : ℕ) (room : many ≤ length blocks) where
-  pub free_first : k < many → free_left blocks many k ≡ record { block = get_or blocks k 0; bytes = free_block } ∷ free_left blocks many (k + 1)
-  free_first h = ap freed (chain_at blocks many k room h)
+module _ (blocks : List ℕ) (k : ℕ) where
+  pub free_first : k < length blocks → free_left blocks k ≡ record { block = get_or blocks k 0; bytes = free_block } ∷ free_left blocks (k + 1)
+  free_first h = ap freed (chain_at blocks k h)
 
-  pub free_none : many ≤ k → free_left blocks many k ≡ []
-  free_none h = ap freed (chain_end blocks many k room h)
+  pub free_none : length blocks ≤ k → free_left blocks k ≡ []
+  free_none h = ap freed (chain_end blocks k h)
 
 -- ---- a chain written
 abbrev pub piece_of : List ℕ → ℕ → List ℕ
 piece_of l k = part (content_room * k) content_room l
 
-abbrev pub written_left : ℕ → List ℕ → List ℕ → ℕ → ℕ → List Put
-written_left number l blocks many k = written number (kind_of k) (tabled (piece_of l) k (many - k)) (drop k (take many blocks))
+abbrev pub written_left : ℕ → List ℕ → List ℕ → ℕ → List Put
+written_left number l blocks k = written number (kind_of k) (tabled (piece_of l) k (length blocks - k)) (drop k blocks)
 
 -- what goes into block k
-abbrev pub bytes_at : ℕ → List ℕ → List ℕ → ℕ → ℕ → List ℕ
-bytes_at number l blocks many k = entry_block (kind_of k) number (next_in (drop (k + 1) (take many blocks))) (piece_of l k)
+abbrev pub bytes_at : ℕ → List ℕ → List ℕ → ℕ → List ℕ
+bytes_at number l blocks k = entry_block (kind_of k) number (next_in (drop (k + 1) blocks)) (piece_of l k)
 
-module _ (number : ℕ) (l blocks : List ℕ) (many k : ℕ) (room : many ≤ length blocks) where
-  pub written_first : k < many → written_left number l blocks many k ≡ record { block = get_or blocks k 0; bytes = bytes_at number l blocks many k } ∷ written_left number l blocks many (k + 1)
+module _ (number : ℕ) (l blocks : List ℕ) (k : ℕ) where
+  pub written_first : k < length blocks → written_left number l blocks k ≡ record { block = get_or blocks k 0; bytes = bytes_at number l blocks k } ∷ written_left number l blocks (k + 1)
   unfolding written
   written_first h =
-      ap (λ cs. written number (kind_of k) cs (drop k (take many blocks))) (tabled_at (piece_of l) k many h)
-      ∙ ap (written number (kind_of k) (piece_of l k ∷ tabled (piece_of l) (k + 1) (many - (k + 1)))) (chain_at blocks many k room h)
-      ∙ ap (λ z. record { block = get_or blocks k 0; bytes = bytes_at number l blocks many k } ∷ written number z (tabled (piece_of l) (k + 1) (many - (k + 1))) (drop (k + 1) (take many blocks))) (sym (kind_behind k))
+      let many = length blocks in
+      ap (λ cs. written number (kind_of k) cs (drop k blocks)) (tabled_at (piece_of l) k many h)
+      ∙ ap (written number (kind_of k) (piece_of l k ∷ tabled (piece_of l) (k + 1) (many - (k + 1)))) (chain_at blocks k h)
+      ∙ ap (λ z. record { block = get_or blocks k 0; bytes = bytes_at number l blocks k } ∷ written number z (tabled (piece_of l) (k + 1) (many - (k + 1))) (drop (k + 1) blocks)) (sym (kind_behind k))
 
-  pub bytes_long : length (bytes_at number l blocks many k) ≡ block_size
+  pub bytes_long : length (bytes_at number l blocks k) ≡ block_size
   bytes_long =
       let few = length-take content_room (drop (content_room * k) l) in
-      entry_length (kind_of k) number (next_in (drop (k + 1) (take many blocks))) (piece_of l k) (omega (arith, few))
+      entry_length (kind_of k) number (next_in (drop (k + 1) blocks)) (piece_of l k) (omega (arith, few))
 
-  pub written_none : many ≤ k → written_left number l blocks many k ≡ []
+  pub written_none : length blocks ≤ k → written_left number l blocks k ≡ []
   unfolding written
-  written_none h = ap (λ cs. written number (kind_of k) cs (drop k (take many blocks))) (tabled_end (piece_of l) k many h)
+  written_none h = ap (λ cs. written number (kind_of k) cs (drop k blocks)) (tabled_end (piece_of l) k (length blocks) h)
 
-pub written_all : (number : ℕ) (l blocks : List ℕ) (many : ℕ) → many ≡ blocks_for (length l)
-    → written_left number l blocks many 0 ≡ written number new_kind (pieces l) (take many blocks)
-written_all number l blocks many e =
-    ap (λ cs. written number new_kind cs (take many blocks)) (sym (tabled_all (piece_of l) many) ∙ ap (tabled (piece_of l) 0) e)
+pub written_all : (number : ℕ) (l blocks : List ℕ) → length blocks ≡ blocks_for (length l) → written_left number l blocks 0 ≡ written number new_kind (pieces l) blocks
+written_all number l blocks e =
+    ap (λ cs. written number new_kind cs blocks) (sym (tabled_all (piece_of l) (length blocks)) ∙ ap (tabled (piece_of l) 0) e)
 
 -- ---- every block made free, from the front on
 pub times_more : (n : ℕ) (x : List ℕ) → times (n + 1) x ≡ times n x ++ x

@@ -1,96 +1,72 @@
 // Blocks taken and given back: free ones found, a chain written into them, and a chain freed. "Blocks are taken lowest free first, freed ones again."
 #![tactic(auto)]
 
-ghost use Rattle.std.specs.Prelude.{◌≡◌, ◌+◌, ◌*◌, ◌≤◌, ◌<◌, length, take, drop, get_or};
+ghost use Rattle.std.specs.Prelude.{◌≡◌, ◌+◌, ◌*◌, ◌≤◌, ◌<◌, length, drop};
 ghost use Rattle.scope.specs.Limits.{block_size};
 ghost use Rattle.scope.specs.Lists.{part};
 ghost use Rattle.blocks.specs.Block.{content_room, new_kind, free_block, entry_block};
-ghost use Rattle.blocks.specs.Area.{is_free, times, put_at, replaced};
+ghost use Rattle.blocks.specs.Area.{blocks_in, is_free, times, put_at, replaced};
 ghost use Rattle.blocks.specs.Answers.{blocks_for, pieces, next_in, written, freed};
 ghost use Rattle.blocks.specs.Sizes.{content_most, chain_most};
-ghost use Rattle.chains.specs.Whole.{Whole, NextOf};
-ghost use Rattle.taking.specs.Says.{kind_of, FreesAre, Blocks};
+ghost use Rattle.chains.specs.Whole.{Whole, FirstOf};
+ghost use Rattle.taking.specs.Says.{kind_of, FreesAre, Inside};
 
-use chains::is_free_at;
+use chains::Area;
 use scope::blocks::Block;
-
-// Free blocks: how many, and these, lowest first.
-#[derive(Drop)]
-pub struct Frees {
-    pub many: usize,
-    pub blocks: [u8; Block::CHAIN],
-}
 
 // ---- free blocks
 
-// The first free block from a block on; n where there is none.
-fn free_from(area: &[u8], n: usize, from: usize) -> usize
-    requires { Whole area.now n × (from ≤ n) }
-    ensures { NextOf (is_free area.now) n from result }
+// The first free block from a block on.
+fn free_from(area: &Area<'_>, from: usize) -> Option<usize>
+    requires { from ≤ area.now.blocks }
+    ensures { FirstOf (is_free area.now.bytes.now) area.now.blocks from result }
 {
-    let mut b = from;
-    while b < n {
-        if is_free_at(area, n, b) {
-            return b;
-        }
-        b += 1;
-    }
-    n
+    (from..area.blocks).find(|&b| area.is_free(b))
 }
 
-// "Blocks are taken lowest free first": as many as are needed, or as there are.
-pub fn find_frees(area: &[u8], n: usize, need: usize) -> Frees
-    requires { Whole area.now n × (need ≤ chain_most) }
-    ensures { FreesAre area.now need result.many result.blocks }
+// "Blocks are taken lowest free first": as many as are needed, at the front of a row, where there are so many.
+pub fn find_frees(area: &Area<'_>, need: usize) -> Option<[u8; Block::CHAIN]>
+    requires { need ≤ chain_most }
+    ensures { FreesAre area.now.bytes.now need result }
 {
-    let mut blocks = [0u8; Block::CHAIN];
-    let mut from: usize = 0;
-    let mut k: usize = 0;
-    while k < need {
-        let b = free_from(area, n, from);
-        if b == n {
-            return Frees { many: k, blocks };
-        }
-        blocks[k] = b as u8;
+    let mut row = [0u8; Block::CHAIN];
+    let mut from = 0;
+    for k in 0..need {
+        let b = free_from(area, from)?;
+        row[k] = b as u8;
         from = b + 1;
-        k += 1;
     }
-    Frees { many: k, blocks }
+    Some(row)
 }
 
 // ---- chains written and freed
 
 // Block b made free.
-fn free_at(area: &mut [u8], n: usize, b: usize)
-    requires { Whole area.old n × (b < n) }
+fn free_at(area: &mut [u8], b: usize)
+    requires { b < blocks_in area.old }
     ensures { area.new ≡ put_at (block_size * b) free_block area.old }
 {
     let at = b * Block::SIZE;
-    let end = at + Block::SIZE;
-    block::make_free(&mut area[at..end]);
+    block::make_free(&mut area[at..at + Block::SIZE]);
 }
 
 // Every block made free.
-pub fn free_all(area: &mut [u8], n: usize)
-    requires { Whole area.old n }
-    ensures { area.new ≡ times n free_block }
+pub fn free_all(area: &mut [u8])
+    requires { Whole area.old (blocks_in area.old) }
+    ensures { area.new ≡ times (blocks_in area.old) free_block }
 {
-    let mut b: usize = 0;
-    while b < n {
-        free_at(area, n, b);
-        b += 1;
+    for b in 0..area.len() / Block::SIZE {
+        free_at(area, b);
     }
 }
 
-// The first `many` blocks of a chain made free.
-pub fn free_chain(area: &mut [u8], n: usize, blocks: [u8; Block::CHAIN], many: usize)
-    requires { Blocks area.old n many blocks }
-    ensures { area.new ≡ replaced (freed (take many blocks)) area.old }
+// The blocks of a chain made free.
+pub fn free_chain(area: &mut [u8], blocks: &[u8])
+    requires { Inside area.old blocks.now }
+    ensures { area.new ≡ replaced (freed blocks.now) area.old }
 {
-    let mut k: usize = 0;
-    while k < many {
-        free_at(area, n, blocks[k] as usize);
-        k += 1;
+    for &b in blocks {
+        free_at(area, usize::from(b));
     }
 }
 
@@ -99,75 +75,55 @@ pub fn blocks_for(length: usize) -> usize
     requires { length ≤ content_most }
     ensures { (result ≡ blocks_for length) × (result ≤ chain_most) }
 {
-    (length + (Block::ROOM - 1)) / Block::ROOM
+    length.div_ceil(Block::ROOM)
 }
 
 // A block of an entry, put at block b.
-fn put_at(area: &mut [u8], n: usize, b: usize, kind: u8, number: u32, next: u8, piece: &[u8])
-    requires { Whole area.old n × (b < n) × (length piece.now ≤ content_room) }
+fn put_at(area: &mut [u8], b: usize, kind: u8, number: u32, next: u8, piece: &[u8])
+    requires { (b < blocks_in area.old) × (length piece.now ≤ content_room) }
     ensures { area.new ≡ put_at (block_size * b) (entry_block kind number next piece.now) area.old }
 {
     let at = b * Block::SIZE;
-    let end = at + Block::SIZE;
-    block::put_entry(&mut area[at..end], kind, number, next, piece);
+    block::put_entry(&mut area[at..at + Block::SIZE], kind, number, next, piece);
 }
 
-// The block behind block k of so many, or `NONE`.
-fn next_of(blocks: [u8; Block::CHAIN], many: usize, k: usize) -> u8
-    requires { (k < many) × (many ≤ chain_most) }
-    ensures { result ≡ next_in (drop (k + 1) (take many blocks)) }
+// The block behind block k of these, or `NONE`.
+fn next_of(blocks: &[u8], k: usize) -> u8
+    requires { k < length blocks.now }
+    ensures { result ≡ next_in (drop (k + 1) blocks.now) }
 {
-    if k + 1 < many {
-        return blocks[k + 1];
-    }
-    Block::NONE
+    blocks.get(k + 1).copied().unwrap_or(Block::NONE)
 }
 
 // The kind of block k of an entry.
 fn kind_of(k: usize) -> u8
     ensures { result ≡ kind_of k }
 {
-    if k == 0 {
-        return Block::FIRST;
-    }
-    Block::FURTHER
+    if k == 0 { Block::FIRST } else { Block::FURTHER }
 }
 
-// Piece k of the content, into block k of so many.
-fn put_piece(
-    area: &mut [u8],
-    n: usize,
-    number: u32,
-    content: &[u8],
-    blocks: [u8; Block::CHAIN],
-    many: usize,
-    k: usize,
-)
-    requires { Blocks area.old n many blocks × (many ≡ blocks_for (length content.now)) × (k < many) }
-    ensures { area.new ≡ put_at (block_size * get_or blocks k 0) (entry_block (kind_of k) number (next_in (drop (k + 1) (take many blocks))) (part (content_room * k) content_room content.now)) area.old }
+// Piece k of a content: what block k of its entry holds.
+fn piece_of(content: &[u8], k: usize) -> &[u8]
+    requires { content_room * k ≤ length content.now }
+    ensures { result.now ≡ part (content_room * k) content_room content.now }
 {
     let from = k * Block::ROOM;
-    let end = chains::lower(from + Block::ROOM, content.len());
-    let b = blocks[k] as usize;
-    let next = next_of(blocks, many, k);
-    put_at(area, n, b, kind_of(k), number, next, &content[from..end]);
+    &content[from..content.len().min(from + Block::ROOM)]
 }
 
-// An entry's content, in the first `many` of these blocks.
-pub fn write_chain(
-    area: &mut [u8],
-    n: usize,
-    number: u32,
-    content: &[u8],
-    blocks: [u8; Block::CHAIN],
-    many: usize,
-)
-    requires { Blocks area.old n many blocks × (many ≡ blocks_for (length content.now)) }
-    ensures { area.new ≡ replaced (written number new_kind (pieces content.now) (take many blocks)) area.old }
+// An entry's content, in these blocks.
+pub fn write_chain(area: &mut [u8], number: u32, content: &[u8], blocks: &[u8])
+    requires { Inside area.old blocks.now × (length blocks.now ≡ blocks_for (length content.now)) }
+    ensures { area.new ≡ replaced (written number new_kind (pieces content.now) blocks.now) area.old }
 {
-    let mut k: usize = 0;
-    while k < many {
-        put_piece(area, n, number, content, blocks, many, k);
-        k += 1;
+    for (k, &b) in blocks.iter().enumerate() {
+        put_at(
+            area,
+            usize::from(b),
+            kind_of(k),
+            number,
+            next_of(blocks, k),
+            piece_of(content, k),
+        );
     }
 }

@@ -1,15 +1,10 @@
-use native.Mathlib.Omega.{arith}
-use Rattle.chains.specs.Nexts.{passed_start, passed_more, passed_found, passed_all}
+-- `taking::free_from` meets its contract: the first that passes. Assumes nothing.
+use Rattle.std.proofs.Common.{◌≡◌, true, false, rules, tests}
+use Rattle.std.proofs.lemmas.Iterator.{first_from_Range}
+use Rattle.blocks.specs.Area.{is_free}
 use Rattle.taking.proofs.free_from.Goals as goal
 
-pub loop-b-init : goal.loop-b-init
-loop-b-init c = passed_start c.requires.1
-
-pub returns-then-is_free_at : goal.returns-then-is_free_at
-returns-then-is_free_at c = passed_found c.loop-b.invariant c.is_free_at.ensures c.if-is_free_at.true
-
-pub loop-b-preserved : goal.loop-b-preserved
-loop-b-preserved c = passed_more c.loop-b.invariant (omega arith) c.is_free_at.ensures c.if-is_free_at.false
-
 pub returns : goal.returns
-returns c = passed_all c.loop-b.invariant c.loop-b-test.false c.requires.1
+returns c =
+    let test = is_free c.args.area.now.bytes.now in
+    first_from_Range _ _ _ _ (λ b. test b ≡ true) (λ b. test b ≡ false) c.find.ensures.ran (λ x q k. search (rules, tests)) (λ x q k. search (rules, tests))

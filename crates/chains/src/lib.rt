@@ -25,8 +25,8 @@ pub enum Firsts {
 }
 
 impl Chain {
-    // Its blocks.
-    pub fn blocks(&self) -> &[u8]
+    // Its blocks, in order.
+    pub fn in_order(&self) -> &[u8]
         ensures { result.now ≡ take self.now.many self.now.row }
     {
         &self.row[..self.many]
@@ -169,7 +169,6 @@ impl<'a> Area<'a> {
 
     // The first sound first block of any entry from a block on.
     pub fn head_from(&self, from: usize) -> Option<usize>
-        requires { from ≤ self.now.blocks }
         ensures { FirstOf (is_head self.now.bytes.now) self.now.blocks from result }
     {
         (from..self.blocks).find(|&b| self.is_head(b))

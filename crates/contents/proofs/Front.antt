@@ -1,11 +1,14 @@
 -- What stands at the front of a room: a canonical line, or a placement and a canonical line behind it. Assumes nothing.
-use mathlib.Core.Path.{◌≡◌, ap, ◌∙◌}
-use mathlib.Core.List.{List, ◌++◌}
+use mathlib.Core.Path.{◌≡◌, refl, ap, ◌∙◌}
+use mathlib.Core.Bool.{◌&&◌}
+use lib.Dec.{eqb}
+use lib.Pointwise.{pointwise}
+use mathlib.Core.List.{List, [], ◌∷◌, ◌++◌}
 use Prim.Native.Nat.{ℕ, ◌+◌, ◌-◌, ◌≤◌}
 use native.Mathlib.Omega.{arith}
 use lib.ListN.{length, take, drop, length-append, length-drop}
 use lib.Seq.{take_all, take_at, take-append-add, take-append_seam}
-use Rattle.scope.specs.Lists.{laid}
+use Rattle.scope.specs.Lists.{same, laid}
 use Rattle.figures.specs.Written.{Puts}
 use Rattle.figures.proofs.Storing.{stored_from, stored_whole}
 use Rattle.writer.specs.Written.{WholeLine}
@@ -14,6 +17,14 @@ use Rattle.writer.proofs.LineLaws.{line_laid}
 -- all that stands behind a front
 pub rest_part : (n : ℕ) (c : List ℕ) → take (length c - n) (drop n c) ≡ drop n c
 rest_part n c = let e = length-drop n c in take_all (length c - n) (drop n c) (omega arith)
+
+-- what std's comparison of two slices answers
+pub same_slices : (x y : List ℕ) → pointwise eqb x y ≡ same x y
+unfolding same
+same_slices [] [] = refl
+same_slices [] (b ∷ y) = refl
+same_slices (a ∷ x) [] = refl
+same_slices (a ∷ x) (b ∷ y) = ap (λ t. eqb a b && t) (same_slices x y)
 
 -- a line that an output has room for
 pub line_front : {c o left : List ℕ} {r n : ℕ} → WholeLine c o left r → r ≡ n → n ≤ length o → take n left ≡ c

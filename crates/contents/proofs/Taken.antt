@@ -8,8 +8,9 @@ use borrow.Author.Tests.{ne_eqb, le-ltb}
 use lib.Dec.{ltb}
 use lib.IntN.{ℤ}
 use lib.ListN.{length, take, drop, length-take}
-use Rattle.scope.specs.declared.answers.Read.{Read}
-use Rattle.scope.specs.declared.answers.Read.TheVariants.{Accepted, Refused as read_refused}
+use Rattle.std.specs.Prelude.{Result, Ok, Err}
+use Rattle.std.specs.Result.{IsErrAnd}
+use Rattle.scope.specs.declared.refusals.Refusal.{Refusal}
 use Rattle.scope.specs.Limits.{line_limit, copy_limit}
 use Rattle.scope.specs.Lists.{same}
 use Rattle.scope.specs.Line.{Line}
@@ -19,7 +20,7 @@ use Rattle.scope.specs.Tables.{Tables}
 use Rattle.scope.specs.Layout.{bytes_size, numbers_size, tables_in}
 use Rattle.scope.specs.Positions.{Floating, floating_of}
 use Rattle.scope.specs.Placements.{fits, in_order, allowed}
-use Rattle.scope.specs.Answers.{Said, good, refuses, too_short, read_outcome, says_read, says_outcome, bytes_after, numbers_after}
+use Rattle.scope.specs.Answers.{Said, good, refuses, too_short, read_outcome, says as said_by, reason_number, says_outcome, bytes_after, numbers_after}
 use Rattle.basics.specs.Choice.{pick_true, pick_false}
 use Rattle.basics.specs.Tests.{neither}
 use Rattle.order_laws.specs.Ranks.{orderedb}
@@ -33,8 +34,6 @@ use Rattle.reader.specs.ReadSays.{ReadSays}
 use Rattle.blocks.specs.Block.{new_kind}
 use Rattle.blocks.specs.Entry.{position_bytes, positions_of, content_for, stated, is_stated}
 use Rattle.blocks.specs.Sizes.{content_most}
-use Rattle.contents.specs.declared.Content.{Content}
-use Rattle.contents.specs.declared.Content.TheVariants.{Made, Refused}
 use Rattle.contents.specs.Says.{ContentSays, TableSays, Known}
 
 -- ---- an accepted line, its tables in the areas
@@ -69,16 +68,16 @@ canonical_short {s} t =
     let b = (canonicals.laws).no_longer s t.line t.reads in
     omega (arith, t.short)
 
-module _ {s bs : List ℕ} {ns : List ℤ} {r : Read} {bs' : List ℕ} {ns' : List ℤ} (b : bytes_size ≤ length bs) (n : numbers_size ≤ length ns) (w : ReadSays s bs ns r bs' ns') where
+module _ {s bs : List ℕ} {ns : List ℤ} {r : Result (Unit {0}) Refusal} {bs' : List ℕ} {ns' : List ℤ} (b : bytes_size ≤ length bs) (n : numbers_size ≤ length ns) (w : ReadSays s bs ns r bs' ns') where
   -- areas that have room: the line's own outcome
   own : read_outcome bs ns s ≡ outcome s
   own = pick_false (too_short bs ns) (refused 13 0) (outcome s)
       (neither (ltb (length bs) bytes_size) (ltb (length ns) numbers_size) (le-ltb (length bs) bytes_size b) (le-ltb (length ns) numbers_size n))
 
-  says : (o : Outcome) → outcome s ≡ o → says_read r ≡ says_outcome o
+  says : (o : Outcome) → outcome s ≡ o → said_by r ≡ says_outcome o
   says o e = w.says ∙ ap says_outcome (own ∙ e)
 
-  pub read_taken : r ≡ Accepted → Taken s bs' ns'
+  pub read_taken : {x : Unit {0}} → r ≡ Ok x → Taken s bs' ns'
   read_taken a = go (outcome s) refl
     where
       go : (o : Outcome) → outcome s ≡ o → Taken s bs' ns'
@@ -88,22 +87,22 @@ module _ {s bs : List ℕ} {ns : List ℤ} {r : Read} {bs' : List ℕ} {ns' : Li
           (ap (take bytes_size) (w.bytes_after_is ∙ ap (λ o. bytes_after o bs) (own ∙ e)) ∙ laid_bytes l v bs)
           (ap (take numbers_size) (w.numbers_after_is ∙ ap (λ o. numbers_after o ns) (own ∙ e)) ∙ laid_numbers l v ns))
       go (refused number place) e =
-          let q : good tt ≡ refuses number place = sym (ap says_read a) ∙ says (refused number place) e in
+          let q : good tt ≡ refuses number place = sym (ap said_by a) ∙ says (refused number place) e in
           let z : ◌≡◌ {A = ℕ} 0 1 = cc in
           absurd (omega arith)
 
-  pub read_refused_lem : {number place : ℕ} → r ≡ read_refused number place → outcome s ≡ refused number place
-  read_refused_lem {number} {place} a = go (outcome s) refl
+  pub read_refused_lem : {x : Refusal} → r ≡ Err x → outcome s ≡ refused (reason_number x.reason) x.place
+  read_refused_lem {x} a = go (outcome s) refl
     where
-      go : (o : Outcome) → outcome s ≡ o → outcome s ≡ refused number place
+      go : (o : Outcome) → outcome s ≡ o → outcome s ≡ refused (reason_number x.reason) x.place
       go (accepted l) e =
-          let q : refuses number place ≡ good tt = sym (ap says_read a) ∙ says (accepted l) e in
+          let q : refuses (reason_number x.reason) x.place ≡ good tt = sym (ap said_by a) ∙ says (accepted l) e in
           let z : ◌≡◌ {A = ℕ} 0 1 = cc in
           absurd (omega arith)
       go (refused m i) e =
-          let q : ◌≡◌ {A = Said (Unit {0})} (refuses number place) (refuses m i) = sym (ap says_read a) ∙ says (refused m i) e in
-          let f : m ≡ number = cc in
-          let g : i ≡ place = cc in
+          let q : ◌≡◌ {A = Said (Unit {0})} (refuses (reason_number x.reason) x.place) (refuses m i) = sym (ap said_by a) ∙ says (refused m i) e in
+          let f : m ≡ reason_number x.reason = cc in
+          let g : i ≡ x.place = cc in
           e ∙ ap₂ refused f g
 
 -- ---- what is stated
@@ -151,18 +150,20 @@ module _ {s bs : List ℕ} {ns : List ℤ} (t : Taken s bs ns) (p : List ℕ) wh
       ap (λ o. content_for o p) t.reads
       ∙ ap₂ (λ c f. cond (allowed f p) (good (positions_of p ++ c)) (refuses 18 0)) (sym t.written) (sym t.floats)
 
-  pub content_says : (r : Content) (room : List ℕ) → TableSays (tables_in bs ns) p r room → ContentSays s p r room
-  content_says (Made n) room w = (content_so ∙ w.0, w.1, w.2)
-  content_says (Refused number place) room w = content_so ∙ w
+  pub content_says : (r : Result ℕ Refusal) (room : List ℕ) → TableSays (tables_in bs ns) p r room → ContentSays s p r room
+  content_says (Ok n) room w = (content_so ∙ w.0, w.1, w.2)
+  content_says (Err e) room w = content_so ∙ w
 
-pub refused_content : (s p : List ℕ) {number place : ℕ} → outcome s ≡ refused number place → content_for (outcome s) p ≡ refuses number place
-refused_content s p e = ap (λ o. content_for o p) e
+pub refused_content : (s p room : List ℕ) (x : Refusal) (r : Result ℕ Refusal) → outcome s ≡ refused (reason_number x.reason) x.place → IsErrAnd r (λ y. y ≡ x) → ContentSays s p r room
+refused_content s p room x (Ok n) e h = absurd h
+refused_content s p room x (Err y) e h = ap (λ o. content_for o p) e ∙ ap (λ z. refuses (reason_number z.reason) z.place) (sym h)
 
 -- ---- of tables
 pub tables_made : (t : Tables) (p : List ℕ) {a : Bool} {r : ℕ} (room : List ℕ) → a ≡ allowed (floating_of t) p → a ≡ true → take r room ≡ positions_of p ++ canonical t
-    → 1 ≤ r → r ≤ content_most → TableSays t p (Made r) room
+    → 1 ≤ r → r ≤ content_most → TableSays t p (Ok r) room
 tables_made t p room e y f l h =
     (pick_true (allowed (floating_of t) p) (good (positions_of p ++ canonical t)) (refuses 18 0) (sym e ∙ y) ∙ ap good (sym f), l, h)
 
-pub tables_18 : (t : Tables) (p : List ℕ) {a : Bool} → a ≡ allowed (floating_of t) p → a ≡ false → (room : List ℕ) → TableSays t p (Refused 18 0) room
-tables_18 t p e y room = pick_false (allowed (floating_of t) p) (good (positions_of p ++ canonical t)) (refuses 18 0) (sym e ∙ y)
+pub tables_18 : (t : Tables) (p : List ℕ) {a : Bool} → a ≡ allowed (floating_of t) p → a ≡ false
+    → cond (allowed (floating_of t) p) (good (positions_of p ++ canonical t)) (refuses 18 0) ≡ refuses 18 0
+tables_18 t p e y = pick_false (allowed (floating_of t) p) (good (positions_of p ++ canonical t)) (refuses 18 0) (sym e ∙ y)

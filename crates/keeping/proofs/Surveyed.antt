@@ -12,17 +12,14 @@ use lib.Dec.{eqb}
 use lib.ListN.{length, get_or, set, replicate, length-append, length-set, length-replicate, get_or-replicate}
 use lib.Seq.{get_or-set_same, get_or-set_other}
 use Rattle.scope.specs.Lists.{keep, tabled}
-use Rattle.scope.specs.Answers.{good, refuses}
 use Rattle.basics.specs.Choice.{pick_true, pick_false}
 use Rattle.basics.specs.Lists.{keep_append, keep_same, kept_fewer}
 use Rattle.basics.specs.Tabled.{tabled_snoc, length_tabled}
 use Rattle.basics.specs.Tests.{same?}
 use Rattle.blocks.specs.Block.{free_kind, first_kind, further_kind, is_first, block_kind}
 use Rattle.blocks.specs.Area.{blocks_in, block_at, sound_at, is_free}
-use Rattle.blocks.specs.Answers.{how_many, is_head, is_of_kind, is_other, counts_of, survey_said}
-use Rattle.chains.specs.Whole.{whole_many}
+use Rattle.blocks.specs.Answers.{how_many, is_head, is_of_kind, is_other, counts_of}
 use Rattle.keeping.specs.Sorts.{unsound_sort, free_sort, first_sort, further_sort, other_sort, sort_many, kind_sort, sort_at, of_sort, Counted}
-use Rattle.keeping.proofs.Calls.{over_26, over_rest}
 
 -- ---- the sort of a block, by what was told of it
 module _ (a : List ℕ) (b : ℕ) {t : Bool} (told : t ≡ sound_at a b) where
@@ -188,7 +185,7 @@ module _ {a : List ℕ} {n : ℕ} {of : List ℕ} (many : blocks_in a ≡ n) (w 
       ∙ ap (λ m. length (keep (λ b. eqb (sort_at a b) sort) (tabled (λ b. b) 0 m))) (sym many)
       ∙ ap length (keep_same (λ b. eqb (sort_at a b) sort) test (λ b. sym (same b)) (tabled (λ b. b) 0 (blocks_in a)))
 
-  counts_are : record { free = get_or of free_sort 0; first = get_or of first_sort 0; further = get_or of further_sort 0; other = get_or of other_sort 0; unsound = get_or of unsound_sort 0 } ≡ counts_of a
+  pub counts_are : record { free = get_or of free_sort 0; first = get_or of first_sort 0; further = get_or of further_sort 0; other = get_or of other_sort 0; unsound = get_or of unsound_sort 0 } ≡ counts_of a
   unfolding counts_of
   counts_are =
       let f = count_is (is_free a) free_sort (omega arith) (free_sort_lem a) in
@@ -197,10 +194,3 @@ module _ {a : List ℕ} {n : ℕ} {of : List ℕ} (many : blocks_in a ≡ n) (w 
       let o = count_is (is_other a) other_sort (omega arith) (other_sort_lem a) in
       let x = count_is (λ b. not (sound_at a b)) unsound_sort (omega arith) (unsound_sort_lem a) in
       rw (f, i, u, o, x)
-
-  pub surveyed : {m : ℕ} → m ≡ whole_many a → (m ≡ 0 → ⊥)
-      → good (record { free = get_or of free_sort 0; first = get_or of first_sort 0; further = get_or of further_sort 0; other = get_or of other_sort 0; unsound = get_or of unsound_sort 0 }) ≡ survey_said a
-  surveyed told p = ap good counts_are ∙ sym (over_rest a told (good (counts_of a)) p)
-
-pub not_surveyed : (a : List ℕ) {n : ℕ} → n ≡ whole_many a → n ≡ 0 → refuses 26 0 ≡ survey_said a
-not_surveyed a told z = sym (over_26 a told (good (counts_of a)) z)

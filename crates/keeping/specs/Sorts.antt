@@ -3,6 +3,8 @@ use Rattle.std.specs.Prelude.{ℕ, ◌<◌, ◌≡◌, cond, List, eqb, length, 
 use Rattle.scope.specs.Lists.{keep, tabled}
 use Rattle.blocks.specs.Block.{free_kind, further_kind, is_first, block_kind}
 use Rattle.blocks.specs.Area.{block_at, sound_at}
+use Rattle.keeping.specs.declared.sorts.Sort.{Sort}
+use Rattle.keeping.specs.declared.sorts.Sort.TheVariants.{Unsound, Free, First, Further, Other}
 
 abbrev pub unsound_sort : ℕ
 unsound_sort = 0
@@ -23,6 +25,14 @@ other_sort = 4
 -- how many sorts there are
 abbrev pub sort_many : ℕ
 sort_many = 5
+
+-- the number of a sort
+abbrev pub sort_number : Sort → ℕ
+sort_number Unsound = unsound_sort
+sort_number Free = free_sort
+sort_number First = first_sort
+sort_number Further = further_sort
+sort_number Other = other_sort
 
 -- the sort of a sound block of a kind, and of block b
 abbrev pub kind_sort : ℕ → ℕ

@@ -1,70 +1,71 @@
 // The blocks of an area by their sort, counted.
 ghost use Rattle.std.specs.Prelude.{◌≡◌, ◌<◌};
-ghost use Rattle.chains.specs.Whole.{Whole};
-ghost use Rattle.keeping.specs.Sorts.{sort_many, kind_sort, sort_at, Counted};
+ghost use Rattle.blocks.specs.Answers.{counts_of};
+ghost use Rattle.keeping.specs.Sorts.{sort_many, sort_number, kind_sort, sort_at};
 
+use blocks::Survey;
+use chains::Area;
 use scope::blocks::Block;
 
-// How many blocks there are of each sort.
-#[derive(Drop)]
-pub struct Counts {
-    pub of: [usize; Counts::SORTS],
+// The sorts of blocks.
+#[derive(Clone, Copy, Debug, PartialEq, Eq)]
+pub enum Sort {
+    Unsound = 0,
+    Free = 1,
+    First = 2,
+    Further = 3,
+    Other = 4,
 }
 
-impl Counts {
-    // the sorts, by number
-    pub const UNSOUND: usize = 0;
-
-    pub const FREE: usize = 1;
-
-    pub const FIRST: usize = 2;
-
-    pub const FURTHER: usize = 3;
-
-    pub const OTHER: usize = 4;
-
-    // how many sorts there are
-    pub const SORTS: usize = 5;
-}
+// how many there are
+const SORTS: usize = 5;
 
 // The sort of a sound block of this kind.
-fn sort_of(kind: u8) -> usize
-    ensures { (result ≡ kind_sort kind) × (result < sort_many) }
+fn sort_of(kind: u8) -> Sort
+    ensures { sort_number result ≡ kind_sort kind }
 {
-    if kind == Block::FREE {
-        return Counts::FREE;
+    match kind {
+        Block::FREE => Sort::Free,
+        Block::FIRST => Sort::First,
+        Block::FURTHER => Sort::Further,
+        _ => Sort::Other,
     }
-    if block::is_first(kind) {
-        return Counts::FIRST;
-    }
-    if kind == Block::FURTHER {
-        return Counts::FURTHER;
-    }
-    Counts::OTHER
 }
 
-// The sort of block b of n.
-fn sort_at(area: &[u8], n: usize, b: usize) -> usize
-    requires { Whole area.now n × (b < n) }
-    ensures { (result ≡ sort_at area.now b) × (result < sort_many) }
+// The sort of block b.
+fn sort_at(area: &Area<'_>, b: usize) -> Sort
+    requires { b < area.now.blocks }
+    ensures { sort_number result ≡ sort_at area.now.bytes.now b }
 {
-    if chains::is_sound_at(area, n, b) {
-        return sort_of(chains::kind_at(area, n, b));
+    if area.is_sound(b) {
+        sort_of(area.kind(b))
+    } else {
+        Sort::Unsound
     }
-    Counts::UNSOUND
 }
 
-// All n blocks.
-pub fn count_sorts(area: &[u8], n: usize) -> Counts
-    requires { Whole area.now n }
-    ensures { Counted area.now n result.of }
+// The number of a sort.
+fn index_of(sort: Sort) -> usize
+    ensures { (result ≡ sort_number sort) × (result < sort_many) }
 {
-    let mut of = [0usize; Counts::SORTS];
-    let mut b: usize = 0;
-    while b < n {
-        let sort = sort_at(area, n, b);
-        of[sort] = of[sort] + 1;
-        b += 1;
+    sort as usize
+}
+
+// All blocks.
+pub fn count_sorts(area: &Area<'_>) -> Survey
+    ensures { result ≡ counts_of area.now.bytes.now }
+{
+    let mut of = [0usize; SORTS];
+    for b in 0..area.blocks {
+        let sort = index_of(sort_at(area, b));
+        of[sort] += 1;
     }
-    Counts { of }
+    let [unsound, free, first, further, other] = of;
+    Survey {
+        free,
+        first,
+        further,
+        other,
+        unsound,
+    }
 }

@@ -14,14 +14,14 @@ use Rattle.contents.proofs.content_of.Goals as goal
 pub put_placement-requires : goal.put_placement-requires
 put_placement-requires c =
     let few = c.requires.0.bounds.few_residues in
-    (omega arith, allowed_bytes _ _ (rw residues_many few) (sym c.is_allowed_by.ensures ∙ c.if-is_allowed_by.true))
-
-pub returns-then-is_allowed_by : goal.returns-then-is_allowed_by
-returns-then-is_allowed_by c =
-    let entries : length c.args.p.at ≡ copy_limit = search rules in
-    let ends = c.put_line-end.ensures.ends in
-    tables_made _ _ _ c.is_allowed_by.ensures c.if-is_allowed_by.true
-    (front_whole c.args.p.at c.args.room.now c.put_placement.ensures entries c.put_line-end.ensures (omega arith)) (omega arith) (omega arith)
+    (omega arith, allowed_bytes _ _ (rw residues_many few) (sym c.is_allowed_by.ensures ∙ c.if-not-is_allowed_by.false))
 
 pub returns : goal.returns
-returns c = tables_18 _ _ c.is_allowed_by.ensures c.if-is_allowed_by.false c.args.room.now
+returns c =
+    let entries : length c.args.p.at ≡ copy_limit = search rules in
+    let ends = c.put_line.ensures.ends in
+    tables_made _ _ _ c.is_allowed_by.ensures c.if-not-is_allowed_by.false
+    (front_whole c.args.p.at c.args.room.now c.put_placement.ensures entries c.put_line.ensures (omega arith)) (omega arith) (omega arith)
+
+pub returns-then-not-is_allowed_by : goal.returns-then-not-is_allowed_by
+returns-then-not-is_allowed_by c = tables_18 _ _ c.is_allowed_by.ensures c.if-not-is_allowed_by.true

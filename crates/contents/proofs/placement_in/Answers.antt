@@ -1,14 +1,11 @@
-use Prim.Native.Nat.{◌-◌}
-use native.Mathlib.Omega.{arith}
-use Rattle.bounds.proofs.Lists.{copied_start, copied_more}
-use Rattle.contents.proofs.Bytes.{filled_whole}
+use Rattle.std.proofs.Common.{ap, ◌∙◌, take, length-take, arith}
+use Rattle.std.proofs.Math.ListN.{set}
+use Rattle.blocks.specs.Block.{new_kind}
+use Rattle.blocks.specs.Entry.{position_bytes}
+use Rattle.contents.proofs.Bytes.{copied_more}
 use Rattle.contents.proofs.placement_in.Goals as goal
 
-pub loop-i-init : goal.loop-i-init
-loop-i-init c = copied_start
-
 pub loop-i-preserved : goal.loop-i-preserved
-loop-i-preserved c = copied_more 0 c.loop-i.invariant (omega arith) c.requires (omega arith)
-
-pub returns : goal.returns
-returns c = filled_whole c.loop-i.invariant c.loop-i-test.false (omega arith)
+loop-i-preserved c =
+    let few = length-take (position_bytes new_kind) c.args.content.now in
+    ap (λ v. set c.loop-i.at c.loop-i.i v) c.from.ensures ∙ copied_more _ _ c.loop-i.i c.loop-i.invariant (omega arith) (omega (arith, few))

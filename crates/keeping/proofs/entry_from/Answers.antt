@@ -1,27 +1,24 @@
 -- `keeping::entry_from` meets its contract: 26, 17, or the next first block from there on. Assumes nothing.
-use native.Mathlib.Omega.{arith}
-use Rattle.chains.specs.Counted.{counted_whole}
-use Rattle.keeping.proofs.Calls.{listed_26, listed_behind, listed_none, listed_one}
+use Rattle.std.proofs.Common.{ap, ap₂, sym, ◌∙◌}
+use Rattle.scope.specs.Answers.{refuses, reason_number}
+use Rattle.keeping.proofs.Calls.{handed_on, refused_so, listed_26, listed_none, listed_one}
 use Rattle.keeping.proofs.entry_from.Goals as goal
 
-pub returns-then-n-eq0 : goal.returns-then-n-eq0
-returns-then-n-eq0 c = listed_26 _ _ c.blocks_in-n.ensures c.if-n-eq0.true
+pub returns-in_err-whole : goal.returns-in_err-whole
+returns-in_err-whole c =
+    let w = rw c.in_err-whole.was at c.whole.ensures in
+    handed_on c.from_residual.result _ c.from_residual.ensures.1 ∙ refused_so _ w.1 ∙ sym (listed_26 _ _ w.0)
 
-pub returns-then-n-from : goal.returns-then-n-from
-returns-then-n-from c =
-    listed_behind _ _ c.blocks_in-n.ensures c.if-n-eq0.false (counted_whole _ c.blocks_in-n.ensures c.if-n-eq0.false).many c.if-n-from.true
-
-pub head_from-b-requires : goal.head_from-b-requires
-head_from-b-requires c = (counted_whole _ c.blocks_in-n.ensures c.if-n-eq0.false, c.if-n-from.false)
-
-pub returns-then-b-n : goal.returns-then-b-n
-returns-then-b-n c =
-    listed_none _ _ c.blocks_in-n.ensures c.if-n-eq0.false (counted_whole _ c.blocks_in-n.ensures c.if-n-eq0.false).many c.head_from-b.ensures c.if-b-n.true
-
-pub number_at-requires : goal.number_at-requires
-number_at-requires c = (counted_whole _ c.blocks_in-n.ensures c.if-n-eq0.false, omega (arith, c.head_from-b.ensures.high))
+pub returns-in_default : goal.returns-in_default
+returns-in_default c =
+    let w = rw c.in_ok-whole.was at c.whole.ensures in
+    let many = rw w.1 at c.in_ok-whole.whole.whole.many in
+    let f = rw w.1 at (rw c.in_default.is at c.head_from.ensures) in
+    ap₂ refuses (ap (λ r. reason_number r) c.refused.ensures.0) c.refused.ensures.1 ∙ sym (listed_none _ _ w.0 many f)
 
 pub returns : goal.returns
 returns c =
-    listed_one _ _ c.blocks_in-n.ensures c.if-n-eq0.false (counted_whole _ c.blocks_in-n.ensures c.if-n-eq0.false).many c.head_from-b.ensures
-    c.if-b-n.false c.number_at.ensures
+    let w = rw c.in_ok-whole.was at c.whole.ensures in
+    let many = rw w.1 at c.in_ok-whole.whole.whole.many in
+    let f = rw w.1 at (rw c.in-Some.is at c.head_from.ensures) in
+    listed_one _ _ w.0 many f (rw w.1 at c.number-number.ensures)

@@ -1,25 +1,28 @@
 -- `keeping::look` meets its contract: none, one or several first blocks decide. Assumes nothing.
-use mathlib.Core.Path.{sym, ◌∙◌}
-use native.Mathlib.Omega.{arith}
-use Rattle.chains.specs.Finding.{one_inside, look_several}
-use Rattle.keeping.proofs.Looks.{says_absent, says_damaged, none_absent, none_damaged, by_one}
+use Rattle.std.proofs.Common.{sym, ap, ◌∙◌, rules, arith}
+use Rattle.scope.specs.Answers.{reason_number}
+use Rattle.chains.specs.Finding.{one_inside, look_several, look_one}
+use Rattle.keeping.proofs.Looks.{none_absent, none_damaged, by_one, damaged_one}
 use Rattle.keeping.proofs.look.Goals as goal
 
 pub look_from-requires : goal.look_from-requires
 look_from-requires c =
-    let told = c.in-One.is in
-    (c.requires.0, omega (arith, c.requires.0.many, one_inside _ _ (sym told ∙ c.find_first-first.ensures)), c.requires.1)
+    let inside = one_inside _ _ (sym c.in-One.is ∙ c.find_first.ensures) in
+    (omega (arith, c.args.area.now.whole.many, inside), c.requires)
+
+pub returns-in_err-look_from-in-One : goal.returns-in_err-look_from-in-One
+returns-in_err-look_from-in-One c =
+    damaged_one _ _ _ (sym c.in-One.is ∙ c.find_first.ensures) _ c.from_residual.result (rw c.in_err-look_from-in-One.was at c.look_from.ensures) c.from_residual.ensures.1
+
+pub returns-in_ok-look_from-in-One : goal.returns-in_ok-look_from-in-One
+returns-in_ok-look_from-in-One c = by_one _ _ (sym c.in-One.is ∙ c.find_first.ensures) (rw c.in_ok-look_from-in-One.was at c.look_from.ensures)
 
 pub returns-then-all_sound : goal.returns-then-all_sound
-returns-then-all_sound c =
-    says_absent c.not_found-then-all_sound.ensures (none_absent _ _ (sym c.in-Nothing.is ∙ c.find_first-first.ensures) c.all_sound.ensures c.if-all_sound.true)
-
-pub returns-in-One : goal.returns-in-One
-returns-in-One c = by_one _ _ (sym c.in-One.is ∙ c.find_first-first.ensures) c.look_from.ensures
-
-pub returns-in-Several : goal.returns-in-Several
-returns-in-Several c = says_damaged c.not_found.ensures (look_several _ _ (sym c.in-Several.is ∙ c.find_first-first.ensures))
+returns-then-all_sound c = none_absent _ _ (sym c.in-Nothing.is ∙ c.find_first.ensures) c.all_sound.ensures c.if-all_sound.true
 
 pub returns-else-all_sound : goal.returns-else-all_sound
 returns-else-all_sound c =
-    says_damaged c.not_found-in-Nothing.ensures (none_damaged _ _ (sym c.in-Nothing.is ∙ c.find_first-first.ensures) c.all_sound.ensures c.if-all_sound.false)
+    (none_damaged _ _ (sym c.in-Nothing.is ∙ c.find_first.ensures) c.all_sound.ensures c.if-all_sound.false, search rules)
+
+pub returns-in-Several : goal.returns-in-Several
+returns-in-Several c = (look_several _ _ (sym c.in-Several.is ∙ c.find_first.ensures), (ap (λ r. reason_number r) c.refused-in-Several.ensures.0, c.refused-in-Several.ensures.1))

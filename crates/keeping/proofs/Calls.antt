@@ -39,11 +39,6 @@ module _ (a : List ℕ) {A : Type 0} (said : Said A) where
   pub over_rest : whole_blocks a ≡ true → over_blocks a said ≡ said
   over_rest p = pick_true (whole_blocks a) said (refuses 26 0) p
 
--- ---- "One call makes an empty area."
-pub empty_so : {a : List ℕ} {r : Result (Unit {0}) Refusal} {a' : List ℕ} {s : Said (Unit {0})} → empty_said a ≡ s → said_by r ≡ s → a' ≡ area_after s (times (blocks_in a) free_block) a
-    → EmptySays a r a'
-empty_so {a} e f g = record { says = f ∙ sym e; area_after_is = g ∙ ap (λ s. area_after s (times (blocks_in a) free_block) a) (sym e) }
-
 -- ---- add
 pub changed_so : {a : List ℕ} {said : Said (List Put)} {r : Result (Unit {0}) Refusal} {a' : List ℕ} (s : Said (List Put)) → said ≡ s → said_by r ≡ met s → a' ≡ added_to a s
     → Changed a said r a'

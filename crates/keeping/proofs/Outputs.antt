@@ -33,29 +33,6 @@ handed_as {out = out} e w =
 pub handed_not : {said : Said Entry} {out : List ℕ} {r : Result Fetched Refusal} (number place : ℕ) → said ≡ refuses number place → said_by r ≡ refuses number place → Handed said out r out
 handed_not number place e w = handed_as e (record { says = w; output_after_is = refl })
 
--- ---- an entry's line, into an output
-module _ (c out : List ℕ) where
-  behind : length (line_in new_kind c) ≡ length c - position_bytes new_kind
-  behind = length-drop (position_bytes new_kind) c
-
-  pub short_15 : length out < length c - position_bytes new_kind → entry_said (entry_in new_kind c) (length out) ≡ refuses 15 (length c - position_bytes new_kind)
-  short_15 h =
-      let e = behind in
-      pick_true (ltb (length out) (length (line_in new_kind c))) (refuses 15 (length (line_in new_kind c))) (good (entry_in new_kind c)) (lt-ltb (length out) (length (line_in new_kind c)) (omega arith))
-      ∙ ap (refuses 15) e
-
-  pub line_handed : {at out' : List ℕ} → length c - position_bytes new_kind ≤ length out → at ≡ placement_in new_kind c
-      → out' ≡ line_in new_kind c ++ drop (length c - position_bytes new_kind) out
-      → Handed (entry_said (entry_in new_kind c) (length out)) out (Ok (record { size = length c - position_bytes new_kind; at = at })) out'
-  line_handed h p o =
-      let e = behind in
-      handed_as
-      (pick_false (ltb (length out) (length (line_in new_kind c))) (refuses 15 (length (line_in new_kind c))) (good (entry_in new_kind c)) (le-ltb (length out) (length (line_in new_kind c)) (omega arith)))
-      (record {
-        says = ap₂ (λ n q. good (record { size = n; at = q })) (sym e) p;
-        output_after_is = o ∙ ap (λ k. line_in new_kind c ++ drop k out) (sym e);
-      })
-
 -- ---- fetch
 module _ (a : List ℕ) (number room : ℕ) where
   pub fetch_26 : whole_blocks a ≡ false → fetch_said a number room ≡ refuses 26 0

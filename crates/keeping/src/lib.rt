@@ -97,7 +97,7 @@ pub fn empty(area: &mut [u8]) -> Result<(), Refusal>
 
 // ---- add
 
-// A content into free blocks of an area; 24.
+// A content into free blocks of an area; 24. The area is asked for its blocks anew, since the loan ends before it is written.
 fn add_new(area: &mut [u8], number: u32, content: &[u8]) -> Result<(), Refusal>
     requires { (whole_blocks area.old ≡ true) × (1 ≤ length content.now) × (length content.now ≤ content_most) }
     ensures { NewSays area.old number content.now result area.new }

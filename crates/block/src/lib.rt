@@ -119,7 +119,7 @@ pub fn links(block: &[u8; Block::SIZE], n: usize, expected: u32, k: u8) -> bool
     kind(block) == k && carries(block, n, expected) && is_padded(block) && is_full_or_last(block)
 }
 
-// ---- what is written
+// ---- what is written: into a slice, since of an array borrowed out of an area a proof knows only the length once the loan has ended
 
 // The sum of what stands before it, behind it.
 fn seal(block: &mut [u8])

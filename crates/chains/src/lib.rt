@@ -7,7 +7,6 @@ ghost use Rattle.blocks.specs.Block.{content_at, content_room, block_kind, entry
 ghost use Rattle.blocks.specs.Area.{whole_blocks, block_at, sound_at, all_sound, carries, firsts, is_free, put_at};
 ghost use Rattle.blocks.specs.Chain.{links};
 ghost use Rattle.blocks.specs.Answers.{is_head};
-ghost use Rattle.blocks.specs.Sizes.{chain_room};
 ghost use Rattle.chains.specs.Whole.{is_first_of, FirstOf};
 ghost use Rattle.chains.specs.Says.{how_many, Gathers};
 
@@ -15,6 +14,9 @@ mod borrowed;
 
 pub use crate::borrowed::{Area, Chain};
 use scope::blocks::Block;
+
+// The room that the content of a chain takes.
+pub const ROOM: usize = Block::CHAIN * Block::ROOM;
 
 // The sound first blocks of an entry.
 #[derive(Clone, Copy, Debug, PartialEq, Eq)]
@@ -178,8 +180,8 @@ impl<'a> Area<'a> {
 
     // The chain that begins with block `first`, its content in a row in the room; none where it is none as stated. A chain of more blocks than an entry takes has a
     // longer line than any, and one of more blocks than the area has meets a block twice.
-    pub fn gather(&self, number: u32, first: usize, room: &mut [u8]) -> Option<Chain>
-        requires { (first < self.now.blocks) × (length room.old ≡ chain_room) }
+    pub fn gather(&self, number: u32, first: usize, room: &mut [u8; ROOM]) -> Option<Chain>
+        requires { first < self.now.blocks }
         ensures { Gathers self.now.bytes.now number first result room.new }
     {
         let mut row = [0u8; Block::CHAIN];

@@ -5,22 +5,19 @@ ghost use Rattle.std.specs.Prelude.{◌≡◌, ◌≤◌, ◌<◌, true, false, 
 ghost use Rattle.blocks.specs.Block.{new_kind};
 ghost use Rattle.blocks.specs.Area.{whole_blocks};
 ghost use Rattle.blocks.specs.Entry.{position_bytes};
-ghost use Rattle.blocks.specs.Sizes.{content_most, chain_room};
+ghost use Rattle.blocks.specs.Sizes.{content_most};
 ghost use Rattle.keeping.specs.Looking.{Refuses, StartSays, LookSays, FindSays};
 ghost use Rattle.keeping.specs.Steps.{NewSays, ContentAdded, HandedOut};
 ghost use Rattle.keeping.specs.Says.{EmptySays, AddSays, FetchSays, RemoveSays, EntrySays, SurveySays};
 
 use crate::sorts::count_sorts;
 use blocks::{Fetched, Listed, Survey};
-use chains::{Area, Chain, Firsts};
+use chains::{Area, Chain, Firsts, ROOM};
 use scope::answers::Placement;
 use scope::blocks::Block;
 use scope::refusals::{Reason, Refusal};
 
 mod sorts;
-
-// The room that the content of a chain takes.
-const ROOM: usize = Block::CHAIN * Block::ROOM;
 
 // A refusal that tells no place.
 fn refused(reason: Reason) -> Refusal
@@ -42,8 +39,13 @@ fn whole(area: &[u8]) -> Result<Area<'_>, Refusal>
 // ---- what is found under a number
 
 // The entry whose first block is b, its content in the room; 25.
-fn look_from(area: &Area<'_>, number: u32, b: usize, room: &mut [u8]) -> Result<Chain, Refusal>
-    requires { (b < area.now.blocks) × (length room.old ≡ chain_room) }
+fn look_from(
+    area: &Area<'_>,
+    number: u32,
+    b: usize,
+    room: &mut [u8; ROOM],
+) -> Result<Chain, Refusal>
+    requires { b < area.now.blocks }
     ensures { StartSays area.now.bytes.now number b result room.new }
 {
     let Some(chain) = area.gather(number, b, room) else {
@@ -57,8 +59,7 @@ fn look_from(area: &Area<'_>, number: u32, b: usize, room: &mut [u8]) -> Result<
 }
 
 // The entry, where there is one. 25 "is given when ..": every call goes by this.
-fn look(area: &Area<'_>, number: u32, room: &mut [u8]) -> Result<Option<Chain>, Refusal>
-    requires { length room.old ≡ chain_room }
+fn look(area: &Area<'_>, number: u32, room: &mut [u8; ROOM]) -> Result<Option<Chain>, Refusal>
     ensures { LookSays area.now.bytes.now number result room.new }
 {
     match area.find_first(number) {
@@ -75,8 +76,7 @@ fn look(area: &Area<'_>, number: u32, room: &mut [u8]) -> Result<Option<Chain>, 
 }
 
 // The entry that has to be there: 25, 22.
-fn find(area: &Area<'_>, number: u32, room: &mut [u8]) -> Result<Chain, Refusal>
-    requires { length room.old ≡ chain_room }
+fn find(area: &Area<'_>, number: u32, room: &mut [u8; ROOM]) -> Result<Chain, Refusal>
     ensures { FindSays area.now.bytes.now number result room.new }
 {
     match look(area, number, room)? {

@@ -8,7 +8,7 @@ use Rattle.keeping.proofs.look.Goals as goal
 pub look_from-requires : goal.look_from-requires
 look_from-requires c =
     let inside = one_inside _ _ (sym c.in-One.is ∙ c.find_first.ensures) in
-    (omega (arith, c.args.area.now.whole.many, inside), c.requires)
+    omega (arith, c.args.area.now.whole.many, inside)
 
 pub returns-in_err-look_from-in-One : goal.returns-in_err-look_from-in-One
 returns-in_err-look_from-in-One c =

@@ -6,7 +6,7 @@ use Rattle.chains.proofs.Following.{following_start, breaks, ends, content_few, 
 use Rattle.chains.proofs.borrowed.Area.gather.Goals as goal
 
 pub loop-k-init : goal.loop-k-init
-loop-k-init c = following_start _ _ c.args.self.now.whole c.requires.0 c.kind-kind.ensures (search rules) c.requires.1 (search rules)
+loop-k-init c = following_start _ _ c.args.self.now.whole c.requires c.kind-kind.ensures (search rules) (search rules) (search rules)
 
 pub returns-then-not-links : goal.returns-then-not-links
 returns-then-not-links c = breaks c.loop-k.invariant c.links.ensures c.if-not-links.true

@@ -11,7 +11,7 @@ ghost use Rattle.block.specs.Links.{full_or_last, links_as, front_of};
 
 use scope::blocks::Block;
 
-// ---- kinds
+// ---- kinds, as numbers: the byte of a block may hold any
 
 // Is it a kind of first blocks?
 pub fn is_first(kind: u8) -> bool

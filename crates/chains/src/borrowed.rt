@@ -6,7 +6,7 @@ ghost use Rattle.chains.specs.Whole.{Whole};
 use scope::blocks::Block;
 
 // An area of 1 to 128 whole blocks: its bytes, and how many blocks it has.
-#[derive(Clone, Copy)]
+#[derive(Clone, Copy, Debug, PartialEq, Eq)]
 pub struct Area<'a> {
     pub bytes: &'a [u8],
     pub blocks: usize,
@@ -14,7 +14,7 @@ pub struct Area<'a> {
 }
 
 // The chain of an entry: how many blocks it has, how many bytes of content, and the blocks in order at the front of a row.
-#[derive(Clone, Copy)]
+#[derive(Clone, Copy, Debug, PartialEq, Eq)]
 pub struct Chain {
     pub many: usize,
     pub long: usize,

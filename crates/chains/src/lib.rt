@@ -18,7 +18,7 @@ use scope::blocks::Block;
 // The room that the content of a chain takes.
 pub const ROOM: usize = Block::CHAIN * Block::ROOM;
 
-// The sound first blocks of an entry.
+// The sound first blocks of an entry: none, one, or more, which are not told apart and are no value.
 #[derive(Clone, Copy, Debug, PartialEq, Eq)]
 pub enum Firsts {
     Nothing,
@@ -64,7 +64,7 @@ impl<'a> Area<'a> {
         }
     }
 
-    // ---- one block
+    // ---- one block, by its number, which a byte of an area may hold too: so each asks that the area has it
 
     // Block b.
     fn block(&self, b: usize) -> &'a [u8; Block::SIZE]

@@ -45,7 +45,7 @@ fn has_end(chunk: &[u8], at: usize) -> bool
     so
 }
 
-// From a place of the chunk on, stride by stride, as long as no line ends in the next one.
+// From a place of the chunk on, stride by stride, as long as no line ends in the next one: the cursor goes on by strides, and stays where one has an end.
 fn skip_plain(chunk: &[u8], from: usize) -> usize
     requires { from ≤ length chunk.now }
     ensures { Passed chunk.now from result }

@@ -97,7 +97,7 @@ fn send_some<W: Write, C: Clock>(
     0
 }
 
-// How many of the first n bytes were taken: all of them, where no write failed.
+// How many of the first n bytes were taken: all of them, where no write failed. A write takes as many as it likes, so the cursor goes on by what was taken.
 fn send<W: Write, C: Clock>(clock: &C, to: &mut W, text: &[u8], n: usize) -> usize
     requires { n ≤ length text.now }
     ensures within { result ≤ n }

@@ -20,7 +20,7 @@ use Rattle.store.specs.BracketPut.{PlacesFit, BracketNoted}
 use Rattle.store.proofs.NotedRows.{parts_many, head_noted, points_are, places_fit, texts_long, texts_noted, row_noted, number_noted, row_fits}
 use Rattle.held.specs.declared.Seen.{Seen}
 use Rattle.held.specs.Tells.{Tells}
-use Rattle.held.specs.Held.{PartSeen, FrameFits, FrameHeld, BracketThere, BracketHeld, BracketSeen}
+use Rattle.held.specs.Held.{PartSeen, FrameHeld, BracketThere, BracketHeld, BracketSeen}
 use Rattle.held.proofs.Joins.{tells_itself, tells_both, Joins, joins_beside, tells_then}
 use Rattle.held.proofs.Places.{at_nil, at_joins, at_cons, at_padded}
 use Rattle.held.proofs.Upto.{HeldUpto, upto_start, upto_room, upto_next, upto_texts, upto_end}
@@ -74,38 +74,31 @@ module _ {line heads parts : List ℕ} {masses scores : List ℤ} {residues k : 
       }
 
 -- ---- the loop over its parts
-pub frame_fits : {line heads parts : List ℕ} {masses scores : List ℤ} {k t n : ℕ} {bytes : List ℕ} {numbers : List ℤ}
-    → n ≡ parts_field heads k → (b : Bracket ℕ) × BracketThere line heads parts masses scores k t b bytes numbers → FrameFits heads scores k n bytes numbers
-frame_fits e s =
-    let f = s.1 in
-    record {
-      few_brackets_lem = f.few_brackets_lem;
-      few_parts_lem = omega (arith, parts_many f.noted, f.noted.within.few_parts_lem);
-      bytes_long = f.bytes_long;
-      numbers_long = f.numbers_long;
-    }
+pub frame_fits : {line heads parts : List ℕ} {masses scores : List ℤ} {k t n : ℕ}
+    → n ≡ parts_field heads k → (b : Bracket ℕ) × BracketThere line heads parts masses scores k t b → (k < bracket_limit) × (n ≤ part_limit)
+frame_fits e s = let f = s.1 in (f.few_brackets_lem, omega (arith, parts_many f.noted, f.noted.within.few_parts_lem))
 
 -- its places stand in the line
-pub some_places : {line heads parts : List ℕ} {masses scores : List ℤ} {k t at many : ℕ} {bytes : List ℕ} {numbers : List ℤ}
-    → at ≡ places_field heads k → many ≡ many_field heads k → (b : Bracket ℕ) × BracketThere line heads parts masses scores k t b bytes numbers
-    → (ps : List (Place ℕ)) × PlacesFit line at many k ps bytes
-some_places ea em s = let f = s.1 in (s.0.places, places_fit f.noted ea em f.few_brackets_lem f.bytes_long)
+pub some_places : {line heads parts : List ℕ} {masses scores : List ℤ} {k t at many : ℕ}
+    → at ≡ places_field heads k → many ≡ many_field heads k → (b : Bracket ℕ) × BracketThere line heads parts masses scores k t b
+    → (ps : List (Place ℕ)) × PlacesFit line at many k ps
+some_places ea em s = let f = s.1 in (s.0.places, places_fit f.noted ea em f.few_brackets_lem)
 
 pub record HoldingParts (line heads parts : List ℕ) (masses scores : List ℤ) (k : ℕ) (bytes : List ℕ) (numbers : List ℤ) (m n : ℕ) (first : Seen) (j : ℕ) (seen : Seen) : Type 0 where
   pub base_is : m ≡ base_field heads k
   pub many : n ≡ parts_field heads k
   pub few : j ≤ n
-  pub there : (b : Bracket ℕ) × BracketThere line heads parts masses scores k first.texts b bytes numbers
-  pub upto : (b : Bracket ℕ) → BracketThere line heads parts masses scores k first.texts b bytes numbers
+  pub there : (b : Bracket ℕ) × BracketThere line heads parts masses scores k first.texts b
+  pub upto : (b : Bracket ℕ) → BracketThere line heads parts masses scores k first.texts b
       → HeldUpto (PartsHeld bytes numbers k) packed first.texts b.parts first.so j seen.texts seen.so
 
 module _ {line heads parts : List ℕ} {masses scores : List ℤ} {k : ℕ} {bytes : List ℕ} {numbers : List ℤ} {m n : ℕ} where
-  pub parting_start : (first : Seen) → (b : Bracket ℕ) × BracketThere line heads parts masses scores k first.texts b bytes numbers → m ≡ base_field heads k → n ≡ parts_field heads k
+  pub parting_start : (first : Seen) → (b : Bracket ℕ) × BracketThere line heads parts masses scores k first.texts b → m ≡ base_field heads k → n ≡ parts_field heads k
       → HoldingParts line heads parts masses scores k bytes numbers m n first 0 first
   parting_start first s e f = record { base_is = e; many = f; few = omega arith; there = s; upto = λ b h. upto_start }
 
   module _ {first : Seen} {j : ℕ} {seen : Seen} (w : HoldingParts line heads parts masses scores k bytes numbers m n first j seen) where
-    module _ {b : Bracket ℕ} (f : BracketThere line heads parts masses scores k first.texts b bytes numbers) (h : j < n) where
+    module _ {b : Bracket ℕ} (f : BracketThere line heads parts masses scores k first.texts b) (h : j < n) where
       next : Among b.parts j
       next = among b.parts j (omega (arith, w.many, parts_many f.noted))
 
@@ -114,11 +107,11 @@ module _ {line heads parts : List ℕ} {masses scores : List ℤ} {k : ℕ} {byt
           let e : f.noted.base + length next.before ≡ m + j = omega (arith, w.base_is, f.noted.fields.base_is, next.place) in
           subst (λ i. PartNoted line parts masses i next.this) e (f.noted.parts_are next.before next.this next.behind next.is)
 
-      fits : RowFits line parts masses (m + j) k j seen.texts bytes numbers
+      fits : RowFits line parts masses (m + j) k j seen.texts
       fits =
           let all_parts : n ≡ length b.parts = w.many ∙ parts_many f.noted in
           row_fits next_noted (omega (arith, w.base_is, f.noted.fields.base_is, f.noted.few_rows))
-          (omega (arith, upto_room (w.upto b f) next, f.texts_room)) f.few_brackets_lem (omega (arith, f.noted.within.few_parts_lem)) f.bytes_long f.numbers_long
+          (omega (arith, upto_room (w.upto b f) next, f.texts_room)) f.few_brackets_lem (omega (arith, f.noted.within.few_parts_lem))
 
       further : {r : Seen} → PartSeen line parts masses (m + j) k j bytes numbers seen r
           → HeldUpto (PartsHeld bytes numbers k) packed first.texts b.parts first.so (j + 1) r.texts r.so
@@ -129,16 +122,16 @@ module _ {line heads parts : List ℕ} {masses scores : List ℤ} {k : ℕ} {byt
           upto_next (w.upto b f) next e (parts_joins bytes numbers k j t p next.behind r.texts e)
           (rw (row_noted next_noted t, texts_noted next_noted, number_noted next_noted) at q.decided)
 
-    pub parting_fits : j < n → RowFits line parts masses (m + j) k j seen.texts bytes numbers
+    pub parting_fits : j < n → RowFits line parts masses (m + j) k j seen.texts
     parting_fits h = fits w.there.1 h
 
     pub parting_next : j < n → {r : Seen} → PartSeen line parts masses (m + j) k j bytes numbers seen r → HoldingParts line heads parts masses scores k bytes numbers m n first (j + 1) r
     parting_next h q = record { base_is = w.base_is; many = w.many; few = omega arith; there = w.there; upto = λ b f. further f h q }
 
-    pub parting_end : n ≤ j → {before frame places : Bool} {at many : ℕ} → first.so ≡ (before && (frame && places)) → Tells frame (FrameHeld heads scores k n bytes numbers)
-        → at ≡ places_field heads k → many ≡ many_field heads k → ((ps : List (Place ℕ)) → PlacesFit line at many k ps bytes → Tells places (At bytes (places_at k) (places_row ps)))
-        → (b : Bracket ℕ) → BracketThere line heads parts masses scores k first.texts b bytes numbers → BracketSeen k b bytes numbers (record { so = before; texts = first.texts }) seen
-    parting_end h {before} e v ea em told b f =
+    pub parting_end : numbers_size ≤ length numbers → n ≤ j → {before frame places : Bool} {at many : ℕ} → first.so ≡ (before && (frame && places)) → Tells frame (FrameHeld heads scores k n bytes numbers)
+        → at ≡ places_field heads k → many ≡ many_field heads k → ((ps : List (Place ℕ)) → PlacesFit line at many k ps → Tells places (At bytes (places_at k) (places_row ps)))
+        → (b : Bracket ℕ) → BracketThere line heads parts masses scores k first.texts b → BracketSeen k b bytes numbers (record { so = before; texts = first.texts }) seen
+    parting_end long h {before} e v ea em told b f =
         let all_parts : n ≡ length b.parts = w.many ∙ parts_many f.noted in
         let all : j ≡ length b.parts = omega (arith, w.few) in
         let u = w.upto b f in
@@ -146,6 +139,6 @@ module _ {line heads parts : List ℕ} {masses scores : List ℤ} {k : ℕ} {byt
           texts_are = upto_texts u all;
           decided =
               tells_then
-              (joins_beside (bracket_joins f.noted bytes numbers f.few_brackets_lem f.numbers_long first.texts n all_parts))
-              (rw e (tells_both (tells_itself before) (tells_both v (told b.places (places_fit f.noted ea em f.few_brackets_lem f.bytes_long))))) (upto_end u all (no_parts_lem bytes numbers k j seen.texts));
+              (joins_beside (bracket_joins f.noted bytes numbers f.few_brackets_lem long first.texts n all_parts))
+              (rw e (tells_both (tells_itself before) (tells_both v (told b.places (places_fit f.noted ea em f.few_brackets_lem))))) (upto_end u all (no_parts_lem bytes numbers k j seen.texts));
         }

@@ -24,7 +24,6 @@ use Rattle.sheet.specs.declared.Sheet.{Sheet}
 use Rattle.sheet.specs.Kept.{LineNoted}
 use Rattle.sheet.proofs.FieldLaws.{Among, among}
 use Rattle.store.specs.BracketPut.{BracketNoted}
-use Rattle.store.specs.Filled.{FrontFits}
 use Rattle.store.proofs.NotedLine.{is_accepted, within, residues_many, brackets_many, letters_are, sections_are, bracket_noted}
 use Rattle.held.specs.declared.Seen.{Seen}
 use Rattle.held.specs.Tells.{Tells}
@@ -131,24 +130,17 @@ module _ (l : Line ℕ) (w : Within l) (bytes : List ℕ) (numbers : List ℤ) w
 pub record HoldingBrackets (line : List ℕ) (sheet : Sheet) (residues brackets : ℕ) (bytes : List ℕ) (numbers : List ℤ) (first : Seen) (k : ℕ) (seen : Seen) : Type 0 where
   pub holds_line : Line ℕ
   pub noted : LineNoted line sheet residues brackets holds_line
-  pub bytes_long : bytes_size ≤ length bytes
-  pub numbers_long : numbers_size ≤ length numbers
   pub few : k ≤ brackets
   pub upto : HeldUpto (BracketsHeld bytes numbers) bracket_texts 0 holds_line.brackets first.so k seen.texts seen.so
 
-pub front_fits : {line : List ℕ} {sheet : Sheet} {residues brackets : ℕ} {bytes : List ℕ} {l : Line ℕ}
-    → LineNoted line sheet residues brackets l → bytes_size ≤ length bytes → FrontFits sheet.letters sheet.sections residues brackets bytes
-front_fits w h =
-    record {
-      few_residues = omega (arith, residues_many w, (within w).few_residues);
-      few_brackets_lem = omega (arith, brackets_many w, (within w).few_brackets_lem);
-      bytes_long = h;
-    }
+pub front_fits : {line : List ℕ} {sheet : Sheet} {residues brackets : ℕ} {l : Line ℕ}
+    → LineNoted line sheet residues brackets l → (residues ≤ residue_limit) × (brackets ≤ bracket_limit)
+front_fits w = (omega (arith, residues_many w, (within w).few_residues), omega (arith, brackets_many w, (within w).few_brackets_lem))
 
 module _ {line : List ℕ} {sheet : Sheet} {residues brackets : ℕ} {bytes : List ℕ} {numbers : List ℤ} where
-  pub bracketing_start : (so : Bool) {l : Line ℕ} → LineNoted line sheet residues brackets l → bytes_size ≤ length bytes → numbers_size ≤ length numbers
+  pub bracketing_start : (so : Bool) {l : Line ℕ} → LineNoted line sheet residues brackets l
       → HoldingBrackets line sheet residues brackets bytes numbers (record { so = so; texts = 0 }) 0 (record { so = so; texts = 0 })
-  bracketing_start so {l} w b n = record { holds_line = l; noted = w; bytes_long = b; numbers_long = n; few = omega arith; upto = upto_start }
+  bracketing_start so {l} w = record { holds_line = l; noted = w; few = omega arith; upto = upto_start }
 
   module _ {first : Seen} {k : ℕ} {seen : Seen} (v : HoldingBrackets line sheet residues brackets bytes numbers first k seen) where
     abbrev l : Line ℕ
@@ -158,7 +150,7 @@ module _ {line : List ℕ} {sheet : Sheet} {residues brackets : ℕ} {bytes : Li
       next : Among l.brackets k
       next = among l.brackets k (omega (arith, brackets_many v.noted))
 
-      next_there : BracketThere line sheet.heads sheet.parts sheet.masses sheet.scores k seen.texts next.this bytes numbers
+      next_there : BracketThere line sheet.heads sheet.parts sheet.masses sheet.scores k seen.texts next.this
       next_there =
           let w = v.noted in
           record {
@@ -166,22 +158,18 @@ module _ {line : List ℕ} {sheet : Sheet} {residues brackets : ℕ} {bytes : Li
             noted = subst (λ i. BracketNoted line sheet.heads sheet.parts sheet.masses sheet.scores (length l.residues) i next.this) (sym next.place) (bracket_noted w next.before next.this next.behind next.is);
             few_brackets_lem = omega (arith, brackets_many w, (within w).few_brackets_lem);
             texts_room = omega (arith, upto_room v.upto next, (within w).texts);
-            bytes_long = v.bytes_long;
-            numbers_long = v.numbers_long;
           }
 
-      pub bracketing_fits : (b : Bracket ℕ) × BracketThere line sheet.heads sheet.parts sheet.masses sheet.scores k seen.texts b bytes numbers
+      pub bracketing_fits : (b : Bracket ℕ) × BracketThere line sheet.heads sheet.parts sheet.masses sheet.scores k seen.texts b
       bracketing_fits = (next.this, next_there)
 
-      pub bracketing_next : {r : Seen} → ((b : Bracket ℕ) → BracketThere line sheet.heads sheet.parts sheet.masses sheet.scores k seen.texts b bytes numbers → BracketSeen k b bytes numbers seen r)
+      pub bracketing_next : {r : Seen} → ((b : Bracket ℕ) → BracketThere line sheet.heads sheet.parts sheet.masses sheet.scores k seen.texts b → BracketSeen k b bytes numbers seen r)
           → HoldingBrackets line sheet residues brackets bytes numbers first (k + 1) r
       bracketing_next {r} told =
           let q = told next.this next_there in
           record {
             holds_line = l;
             noted = v.noted;
-            bytes_long = v.bytes_long;
-            numbers_long = v.numbers_long;
             few = omega arith;
             upto =
                 upto_next v.upto next q.texts_are
@@ -195,10 +183,10 @@ module _ {line : List ℕ} {sheet : Sheet} {residues brackets : ℕ} {bytes : Li
       texts_are : seen.texts ≡ length (flat bracket_texts l.brackets)
       texts_are = upto_texts v.upto passed ∙ zero-add (length (flat bracket_texts l.brackets))
 
-      pub rest_fits : (brackets ≤ bracket_limit) × (seen.texts ≤ line_limit) × (bytes_size ≤ length bytes) × (numbers_size ≤ length numbers)
+      pub rest_fits : (brackets ≤ bracket_limit) × (seen.texts ≤ line_limit)
       rest_fits =
           let w = v.noted in
-          (omega (arith, brackets_many w, (within w).few_brackets_lem), omega (arith, texts_are, (within w).texts), v.bytes_long, v.numbers_long)
+          (omega (arith, brackets_many w, (within w).few_brackets_lem), omega (arith, texts_are, (within w).texts))
 
       pub line_told : {r : Bool} → Tells first.so (FrontHeld (counts_row residues brackets) (take residues sheet.letters) (take residues sheet.sections) bytes)
           → Tells r (RestHeld brackets seen.texts bytes numbers) → (seen.so && r) ≡ reads_to (outcome line) (take bytes_size bytes) (take numbers_size numbers)

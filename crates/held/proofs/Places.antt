@@ -5,9 +5,14 @@ use mathlib.Core.List.{List, [], ◌∷◌, ◌++◌, append_assoc}
 use Prim.Native.Nat.{ℕ, suc, ◌+◌, ◌-◌, ◌≤◌, ◌<◌}
 use native.Mathlib.Nat.{add-zero}
 use native.Mathlib.Omega.{arith}
-use lib.ListN.{length, get_or, drop, replicate}
-use lib.Seq.{drop-drop, drop_at, drop-cons, drop-length, get_or-take, get_or-drop}
-use Rattle.scope.specs.Lists.{part, padded}
+use lib.Dec.{eqb}
+use lib.ListN.{length, get_or, take, drop, replicate, length-drop}
+use lib.Pointwise.{pointwise}
+use borrow.Rule.Slice.PartMut.{mid_of}
+use Rattle.std.proofs.lemmas.Bool.Decides.{Decides-eqb}
+use Rattle.std.proofs.lemmas.Slice.Eq.{starts_is}
+use lib.Seq.{drop-drop, drop_at, drop-cons, drop-length, take_all}
+use Rattle.scope.specs.Lists.{padded}
 use Rattle.held.specs.Tells.{Tells}
 use Rattle.layout_laws.specs.At.{At, at_head, at_first, at_next}
 use Rattle.held.proofs.Joins.{tells_itself, tells_both, Joins, Left, left_more, left_end}
@@ -43,8 +48,12 @@ module _ {A : Type 0} (xs : List A) where
   at_padded z room n o q l e f =
       subst (λ k. Joins (At xs n l) (At xs o (replicate k z)) (At xs n (padded z room l))) (sym f) (at_joins n o l (replicate (room - length l) z) e)
 
-pub part_at : {A : Type 0} (a n : ℕ) (s : List A) (i : ℕ) (d : A) → i < n → get_or (part a n s) i d ≡ get_or s (a + i) d
-part_at a n s i d h = get_or-take n (drop a s) i d h ∙ get_or-drop a s i d
+-- a test whether it begins so
+pub tells_begins : (xs : List ℕ) (n k : ℕ) (l : List ℕ) {r : Bool} → length xs ≤ n + k → r ≡ pointwise eqb l (take (length l) (mid_of n k xs)) → Tells r (At xs n l)
+tells_begins xs n k l {r} h e =
+    let whole : mid_of n k xs ≡ drop n xs = take_all k (drop n xs) (omega (arith, length-drop n xs)) in
+    let begins = starts_is (λ x y. Decides-eqb x y) (mid_of n k xs) l r e in
+    record { on = λ q. record { rest = _; is = sym whole ∙ begins.0 q }; back = λ a. begins.1 a.rest (whole ∙ a.is) }
 
 -- ---- a loop over the elements: those from i on are left
 pub record Matched {A : Type 0} (b l : List A) (at n i : ℕ) (so : Bool) : Type 0 where

@@ -10,7 +10,7 @@ use lib.ListN.{length, replicate, length-map}
 use Rattle.scope.specs.Limits.{place_limit}
 use Rattle.scope.specs.Line.{Place}
 use Rattle.scope.specs.Lists.{padded}
-use Rattle.scope.specs.Layout.{places_at, site_at, places_row, places_field, site_field}
+use Rattle.scope.specs.Layout.{bytes_size, places_at, site_at, places_row, places_field, site_field}
 use Rattle.layout_laws.specs.At.{At}
 use Rattle.sites.specs.Says.{place_of, place_end, SiteIs, Stand}
 use Rattle.store.specs.BracketPut.{PlacesFit}
@@ -58,7 +58,7 @@ none_left bytes n (p ∷ behind) e = absurd (omega arith)
 -- ---- the loop
 pub record HoldingSites (line : List ℕ) (at n k : ℕ) (bytes : List ℕ) (i j : ℕ) (so : Bool) : Type 0 where
   pub few : j ≤ n
-  pub upto : (ps : List (Place ℕ)) (f : PlacesFit line at n k ps bytes) → SitesUpto line k ps f.next bytes i j so
+  pub upto : (ps : List (Place ℕ)) (f : PlacesFit line at n k ps) → SitesUpto line k ps f.next bytes i j so
 
 pub siting_start : (line : List ℕ) (at n k : ℕ) (bytes : List ℕ) → HoldingSites line at n k bytes at 0 true
 siting_start line at n k bytes =
@@ -67,13 +67,13 @@ siting_start line at n k bytes =
       upto = λ ps f. record { behind = ps; many = omega arith; stand = f.stand; left = record { on = λ e a. a; back = λ a. (refl, a) } };
     }
 
-module _ {line : List ℕ} {at n k : ℕ} {bytes : List ℕ} {i j : ℕ} {so : Bool} (w : HoldingSites line at n k bytes i j so) where
-  more : (ps : List (Place ℕ)) (f : PlacesFit line at n k ps bytes) → j < n → Further line k ps f.next bytes i j so
+module _ {line : List ℕ} {at n k : ℕ} {bytes : List ℕ} {i j : ℕ} {so : Bool} (w : HoldingSites line at n k bytes i j so) (long : bytes_size ≤ length bytes) where
+  more : (ps : List (Place ℕ)) (f : PlacesFit line at n k ps) → j < n → Further line k ps f.next bytes i j so
   more ps f h =
       let u = w.upto ps f in
-      further u.behind u.many u.stand u.left (omega (arith, f.many)) (omega (arith, f.few, f.few_brackets_lem, f.bytes_long))
+      further u.behind u.many u.stand u.left (omega (arith, f.many)) (omega (arith, f.few, f.few_brackets_lem, long))
 
-  module _ (s : (ps : List (Place ℕ)) × PlacesFit line at n k ps bytes) (h : j < n) {site next : ℕ} (e : SiteIs line i site next) where
+  module _ (s : (ps : List (Place ℕ)) × PlacesFit line at n k ps) (h : j < n) {site next : ℕ} (e : SiteIs line i site next) where
     there : place_end line i ≤ length line
     there = (more s.0 s.1 h).stands
 
@@ -88,19 +88,19 @@ module _ {line : List ℕ} {at n k : ℕ} {bytes : List ℕ} {i j : ℕ} {so : B
               subst (λ z. SitesUpto line k ps f.next bytes (z + 1) (j + 1) (so && eqb x site)) (sym (e there).1) ((more ps f h).then (tells_equal ex (e there).0));
         }
 
-  pub siting_end : n ≤ j → (ps : List (Place ℕ)) → PlacesFit line at n k ps bytes → Tells so (At bytes (site_at k 0) (map site_of ps))
+  pub siting_end : n ≤ j → (ps : List (Place ℕ)) → PlacesFit line at n k ps → Tells so (At bytes (site_at k 0) (map site_of ps))
   siting_end h ps f =
       let u = w.upto ps f in
       left_end u.left (none_left bytes (site_at k j) u.behind (omega (arith, f.many, u.many, w.few)))
 
 -- ---- the row: their number, their sites, zeros behind
-pub row_told : {line : List ℕ} {at n k : ℕ} {bytes : List ℕ} {x o : ℕ} {s z : Bool} → x ≡ places_field bytes k → o ≡ site_at k n
-    → ((ps : List (Place ℕ)) → PlacesFit line at n k ps bytes → Tells s (At bytes (site_at k 0) (map site_of ps))) → Tells z (At bytes o (replicate (place_limit - n) 0))
-    → (ps : List (Place ℕ)) → PlacesFit line at n k ps bytes → Tells ((eqb x n && s) && z) (At bytes (places_at k) (places_row ps))
-row_told {n = n} {k = k} {bytes = bytes} {o = o} ex eo sites zeros ps f =
+pub row_told : {line : List ℕ} {at n k : ℕ} {bytes : List ℕ} {x o : ℕ} {s z : Bool} → bytes_size ≤ length bytes → x ≡ places_field bytes k → o ≡ site_at k n
+    → ((ps : List (Place ℕ)) → PlacesFit line at n k ps → Tells s (At bytes (site_at k 0) (map site_of ps))) → Tells z (At bytes o (replicate (place_limit - n) 0))
+    → (ps : List (Place ℕ)) → PlacesFit line at n k ps → Tells ((eqb x n && s) && z) (At bytes (places_at k) (places_row ps))
+row_told {n = n} {k = k} {bytes = bytes} {o = o} long ex eo sites zeros ps f =
     let l = length-map ps site_of in
     let m = f.many in
-    let number = at_cons bytes 0 (length ps) (places_at k) (site_at k 0) (padded 0 place_limit (map site_of ps)) (omega arith) (omega (arith, f.few_brackets_lem, f.bytes_long)) in
+    let number = at_cons bytes 0 (length ps) (places_at k) (site_at k 0) (padded 0 place_limit (map site_of ps)) (omega arith) (omega (arith, f.few_brackets_lem, long)) in
     let row = at_padded bytes 0 place_limit (site_at k 0) o (place_limit - n) (map site_of ps) (omega arith) (omega arith) in
     tells_joined (regroup number row) (tells_both (tells_equal ex m) (sites ps f)) zeros
   where

@@ -3,10 +3,9 @@ use Rattle.std.specs.Prelude.{◌≡◌, true, List, [], ◌∷◌, ℕ, ◌+◌
 use Rattle.scope.specs.Limits.{line_limit, residue_limit, bracket_limit, part_limit}
 use Rattle.scope.specs.Line.{Bracket}
 use Rattle.scope.specs.Lists.{padded}
-use Rattle.scope.specs.Layout.{bytes_size, numbers_size, part_size, row_size, number_row_size, residues_at, letters_at, sections_at, texts_at, row_at, part_at, mass_at, bracket_row, bracket_texts, number_row, score_number}
+use Rattle.scope.specs.Layout.{part_size, row_size, number_row_size, residues_at, letters_at, sections_at, texts_at, row_at, part_at, mass_at, bracket_row, bracket_texts, number_row, score_number}
 use Rattle.held.specs.Tells.{Tells}
 use Rattle.layout_laws.specs.At.{At}
-use Rattle.sheet.specs.Rows.{heads_room, parts_room, masses_room}
 use Rattle.store.specs.PartPut.{text_length, label_length, texts_from, row_from, mass_put}
 use Rattle.store.specs.BracketPut.{head_from, BracketNoted}
 use Rattle.held.specs.declared.Seen.{Seen}
@@ -33,12 +32,6 @@ pub record PartSeen (line parts : List ℕ) (masses : List ℤ) (m k j : ℕ) (b
   pub decided : Tells r.so ((seen.so ≡ true) × PartHeld line parts masses m k j seen.texts bytes numbers)
 
 -- ---- what bracket k has beside its n parts
-pub record FrameFits (heads : List ℕ) (scores : List ℤ) (k n : ℕ) (bytes : List ℕ) (numbers : List ℤ) : Type 0 where
-  pub few_brackets_lem : k < bracket_limit
-  pub few_parts_lem : n ≤ part_limit
-  pub bytes_long : bytes_size ≤ length bytes
-  pub numbers_long : numbers_size ≤ length numbers
-
 pub record FrameHeld (heads : List ℕ) (scores : List ℤ) (k n : ℕ) (bytes : List ℕ) (numbers : List ℤ) : Type 0 where
   pub head_at_lem : At bytes (row_at k) (head_from heads k)
   pub rows_zero : At bytes (part_at k n) (replicate ((part_limit - n) * part_size) 0)
@@ -47,13 +40,11 @@ pub record FrameHeld (heads : List ℕ) (scores : List ℤ) (k n : ℕ) (bytes :
 
 -- ---- bracket k
 -- it is noted, and there is room for it, its texts behind t others
-pub record BracketThere (line heads parts : List ℕ) (masses scores : List ℤ) (k t : ℕ) (b : Bracket ℕ) (bytes : List ℕ) (numbers : List ℤ) : Type 0 where
+pub record BracketThere (line heads parts : List ℕ) (masses scores : List ℤ) (k t : ℕ) (b : Bracket ℕ) : Type 0 where
   pub residues : ℕ
   pub noted : BracketNoted line heads parts masses scores residues k b
   pub few_brackets_lem : k < bracket_limit
   pub texts_room : t + length (bracket_texts b) ≤ line_limit
-  pub bytes_long : bytes_size ≤ length bytes
-  pub numbers_long : numbers_size ≤ length numbers
 
 abbrev pub BracketHeld : ℕ → ℕ → Bracket ℕ → List ℕ → List ℤ → Type 0
 BracketHeld k t b bytes numbers = HeldFrom bytes numbers (row_at k) t (mass_at k 0) (bracket_row t b) (bracket_texts b) (number_row b)

@@ -13,11 +13,11 @@ ghost use Rattle.held.specs.Tells.{Tells};
 ghost use Rattle.layout_laws.specs.At.{At};
 ghost use Rattle.sheet.specs.Rows.{masses_room};
 ghost use Rattle.sheet.specs.Kept.{LineNoted};
-ghost use Rattle.store.specs.PartPut.{Copies, RowFits, ComposedFits, NotedFits};
+ghost use Rattle.store.specs.PartPut.{RowFits, ComposedFits, NotedFits};
 ghost use Rattle.store.specs.BracketPut.{head_from, PlacesFit};
-ghost use Rattle.store.specs.Filled.{FrontFits};
-ghost use Rattle.held.specs.Held.{FrontHeld, PartSeen, FrameFits, FrameHeld, BracketThere, BracketSeen, RestHeld};
+ghost use Rattle.held.specs.Held.{FrontHeld, PartSeen, FrameHeld, BracketThere, BracketSeen, RestHeld};
 
+use areas::{Bytes, Numbers};
 use glycans::Cutting;
 use scope::tables::Tables;
 use sheet::Sheet;
@@ -31,53 +31,34 @@ struct Seen {
 
 // ---- pieces
 
-// Do the n bytes of `from` from `a` on stand at a place? All are compared, many at a time.
-fn same_bytes(from: &[u8], a: usize, n: usize, bytes: &[u8], at: usize) -> bool
-    requires { Copies from.now a n bytes.now at }
-    ensures { Tells result (At bytes.now at (part a n from.now)) }
+// Do these bytes stand at a place?
+fn stands(text: &[u8], bytes: &Bytes, at: usize) -> bool
+    requires { at + length text.now ≤ length bytes.now }
+    ensures { Tells result (At bytes.now at text.now) }
 {
-    let mut so = true;
-    let mut i: usize = 0;
-    while i < n {
-        so = so & (bytes[at + i] == from[a + i]);
-        i += 1;
-    }
-    so
+    bytes[at..].starts_with(text)
 }
 
-fn larger(a: u8, b: u8) -> u8
-    ensures { result ≡ max a b }
-{
-    if a < b {
-        return b;
-    }
-    a
-}
-
-// Do n zeros stand there? The largest of them is taken, many at a time.
-fn zero_bytes(bytes: &[u8], at: usize, n: usize) -> bool
+// Do n zeros stand there? All are looked at, many at a time.
+fn zero_bytes(bytes: &Bytes, at: usize, n: usize) -> bool
     requires { at + n ≤ length bytes.now }
     ensures { Tells result (At bytes.now at (replicate n 0)) }
 {
     let mut top: u8 = 0;
-    let mut i: usize = 0;
-    while i < n {
-        top = larger(top, bytes[at + i]);
-        i += 1;
+    for i in 0..n {
+        top = top.max(bytes[at + i]);
     }
     top == 0
 }
 
 // Do n zeros stand there among the numbers?
-fn zero_numbers(numbers: &[i64], at: usize, n: usize) -> bool
+fn zero_numbers(numbers: &Numbers, at: usize, n: usize) -> bool
     requires { at + n ≤ length numbers.now }
     ensures { Tells result (At numbers.now at (replicate n (pos 0))) }
 {
     let mut so = true;
-    let mut i: usize = 0;
-    while i < n {
-        so = so & (numbers[at + i] == 0);
-        i += 1;
+    for i in 0..n {
+        so &= numbers[at + i] == 0;
     }
     so
 }
@@ -108,23 +89,24 @@ fn is_mass(mass: u64, x: i64) -> bool
 
 // ---- in front of the rows
 
-// Do the first n bytes of `from` stand at a place, with zeros behind them up to the limit of residues?
-fn padded_held(from: &[u8], n: usize, bytes: &[u8], at: usize) -> bool
-    requires { (n ≤ residue_limit) × (residue_limit ≤ length from.now) × (at + residue_limit ≤ length bytes.now) }
-    ensures { Tells result (At bytes.now at (padded 0 residue_limit (take n from.now))) }
+// Do these bytes stand at a place, with zeros behind them up to the limit of residues?
+fn padded_held(from: &[u8], bytes: &Bytes, at: usize) -> bool
+    requires { (length from.now ≤ residue_limit) × (at + residue_limit ≤ length bytes.now) }
+    ensures { Tells result (At bytes.now at (padded 0 residue_limit from.now)) }
 {
-    same_bytes(from, 0, n, bytes, at) & zero_bytes(bytes, at + n, Tables::RESIDUES - n)
+    let n = from.len();
+    stands(from, bytes, at) & zero_bytes(bytes, at + n, Tables::RESIDUES - n)
 }
 
 // The numbers of residues and brackets, the letters and the sections?
-fn front_held(sheet: &Sheet, residues: usize, brackets: usize, bytes: &[u8]) -> bool
-    requires { FrontFits sheet.now.letters sheet.now.sections residues brackets bytes.now }
+fn front_held(sheet: &Sheet, residues: usize, brackets: usize, bytes: &Bytes) -> bool
+    requires { (residues ≤ residue_limit) × (brackets ≤ bracket_limit) }
     ensures { Tells result (FrontHeld (counts_row residues brackets) (take residues sheet.now.letters) (take residues sheet.now.sections) bytes.now) }
 {
     (areas::residues(bytes) == residues)
         & (areas::brackets(bytes) == brackets)
-        & padded_held(&sheet.letters, residues, bytes, Tables::LETTERS)
-        & padded_held(&sheet.sections, residues, bytes, Tables::SECTIONS)
+        & padded_held(&sheet.letters[..residues], bytes, Tables::LETTERS)
+        & padded_held(&sheet.sections[..residues], bytes, Tables::SECTIONS)
 }
 
 // ---- a part
@@ -139,9 +121,9 @@ fn fields_held(
     offset: usize,
     k: usize,
     j: usize,
-    bytes: &[u8],
+    bytes: &Bytes,
 ) -> bool
-    requires { (bytes_size ≤ length bytes.now) × (k < bracket_limit) × (j < part_limit) }
+    requires { (k < bracket_limit) × (j < part_limit) }
     ensures { Tells result (At bytes.now (part_at k j) (part_fields value key decimals n l offset)) }
 {
     (areas::value(bytes, k, j) == value)
@@ -159,17 +141,18 @@ fn part_held(
     m: usize,
     k: usize,
     j: usize,
-    bytes: &[u8],
-    numbers: &[i64],
+    bytes: &Bytes,
+    numbers: &Numbers,
     seen: Seen,
 ) -> Seen
-    requires { RowFits line.now sheet.now.parts sheet.now.masses m k j seen.texts bytes.now numbers.now }
+    requires { RowFits line.now sheet.now.parts sheet.now.masses m k j seen.texts }
     ensures { PartSeen line.now sheet.now.parts sheet.now.masses m k j bytes.now numbers.now seen result }
 {
     if store::is_composition(sheet, m) {
-        return composition_held(line, sheet, m, k, j, bytes, numbers, seen);
+        composition_held(line, sheet, m, k, j, bytes, numbers, seen)
+    } else {
+        noted_held(line, sheet, m, k, j, bytes, numbers, seen)
     }
-    noted_held(line, sheet, m, k, j, bytes, numbers, seen)
 }
 
 // The same of a composition: its short text is put into an array, and compared there.
@@ -179,16 +162,16 @@ fn composition_held(
     m: usize,
     k: usize,
     j: usize,
-    bytes: &[u8],
-    numbers: &[i64],
+    bytes: &Bytes,
+    numbers: &Numbers,
     seen: Seen,
 ) -> Seen
-    requires { ComposedFits line.now sheet.now.parts sheet.now.masses m k j seen.texts bytes.now numbers.now }
+    requires { ComposedFits line.now sheet.now.parts sheet.now.masses m k j seen.texts }
     ensures { PartSeen line.now sheet.now.parts sheet.now.masses m k j bytes.now numbers.now seen result }
 {
     let t = seen.texts;
-    let label = sheet.label_from(m);
-    let l = sheet.label_to(m) - label;
+    let label = &line[sheet.label_from(m)..sheet.label_to(m)];
+    let l = label.len();
     let c = store::composition(line, sheet, m);
     let n = c.size;
     let mut short = [0u8; Tables::TEXT];
@@ -204,8 +187,8 @@ fn composition_held(
         k,
         j,
         bytes,
-    ) & same_bytes(&short, 0, n, bytes, Tables::TEXTS + t)
-        & same_bytes(line, label, l, bytes, Tables::TEXTS + t + n)
+    ) & stands(&short[..n], bytes, Tables::TEXTS + t)
+        & stands(label, bytes, Tables::TEXTS + t + n)
         & is_mass(c.mass, areas::mass(numbers, k, j));
     Seen {
         so: seen.so & so,
@@ -220,25 +203,25 @@ fn noted_held(
     m: usize,
     k: usize,
     j: usize,
-    bytes: &[u8],
-    numbers: &[i64],
+    bytes: &Bytes,
+    numbers: &Numbers,
     seen: Seen,
 ) -> Seen
-    requires { NotedFits line.now sheet.now.parts sheet.now.masses m k j seen.texts bytes.now numbers.now }
+    requires { NotedFits line.now sheet.now.parts sheet.now.masses m k j seen.texts }
     ensures { PartSeen line.now sheet.now.parts sheet.now.masses m k j bytes.now numbers.now seen result }
 {
     let t = seen.texts;
-    let text = sheet.text_from(m);
-    let n = sheet.text_to(m) - text;
-    let label = sheet.label_from(m);
-    let l = sheet.label_to(m) - label;
+    let text = &line[sheet.text_from(m)..sheet.text_to(m)];
+    let n = text.len();
+    let label = &line[sheet.label_from(m)..sheet.label_to(m)];
+    let l = label.len();
     let offset = store::offset_of(n + l, t);
     let value = sheet.value_of(m);
     let key = sheet.key_of(m);
     let decimals = sheet.decimals_of(m);
     let so = fields_held(value, key, decimals, n, l, offset, k, j, bytes)
-        & same_bytes(line, text, n, bytes, Tables::TEXTS + t)
-        & same_bytes(line, label, l, bytes, Tables::TEXTS + t + n)
+        & stands(text, bytes, Tables::TEXTS + t)
+        & stands(label, bytes, Tables::TEXTS + t + n)
         & is_noted(sheet, m, areas::mass(numbers, k, j));
     Seen {
         so: seen.so & so,
@@ -249,8 +232,8 @@ fn noted_held(
 // ---- a bracket
 
 // The head of bracket k?
-fn head_held(sheet: &Sheet, k: usize, bytes: &[u8]) -> bool
-    requires { (k < bracket_limit) × (bytes_size ≤ length bytes.now) }
+fn head_held(sheet: &Sheet, k: usize, bytes: &Bytes) -> bool
+    requires { k < bracket_limit }
     ensures { Tells result (At bytes.now (row_at k) (head_from sheet.now.heads k)) }
 {
     (areas::kind(bytes, k) == sheet.kind_of(k))
@@ -262,8 +245,8 @@ fn head_held(sheet: &Sheet, k: usize, bytes: &[u8]) -> bool
 }
 
 // What bracket k has beside its n parts: its head, zeros for the parts that it lacks, its score?
-fn frame_held(sheet: &Sheet, k: usize, n: usize, bytes: &[u8], numbers: &[i64]) -> bool
-    requires { FrameFits sheet.now.heads sheet.now.scores k n bytes.now numbers.now }
+fn frame_held(sheet: &Sheet, k: usize, n: usize, bytes: &Bytes, numbers: &Numbers) -> bool
+    requires { (k < bracket_limit) × (n ≤ part_limit) }
     ensures { Tells result (FrameHeld sheet.now.heads sheet.now.scores k n bytes.now numbers.now) }
 {
     let lacking = Tables::PARTS - n;
@@ -275,26 +258,24 @@ fn frame_held(sheet: &Sheet, k: usize, n: usize, bytes: &[u8], numbers: &[i64]) 
 }
 
 // The sites of bracket k: those of the n places that stand in the line from `at` on?
-fn sites_held(line: &[u8], at: usize, n: usize, k: usize, bytes: &[u8]) -> bool
-    requires { (ps : List (Place ℕ)) × PlacesFit line.now at n k ps bytes.now }
-    ensures { (ps : List (Place ℕ)) → PlacesFit line.now at n k ps bytes.now → Tells result (At bytes.now (site_at k 0) (map (λ p. p.site) ps)) }
+fn sites_held(line: &[u8], at: usize, n: usize, k: usize, bytes: &Bytes) -> bool
+    requires { (ps : List (Place ℕ)) × PlacesFit line.now at n k ps }
+    ensures { (ps : List (Place ℕ)) → PlacesFit line.now at n k ps → Tells result (At bytes.now (site_at k 0) (map (λ p. p.site) ps)) }
 {
     let mut so = true;
     let mut i = at;
-    let mut j: usize = 0;
-    while j < n {
+    for j in 0..n {
         let s = sites::site_at(line, i);
-        so = so & (areas::site(bytes, k, j) == s.site);
+        so &= areas::site(bytes, k, j) == s.site;
         i = s.next + 1;
-        j += 1;
     }
     so
 }
 
 // Its places: how many, their sites, and zeros behind them?
-fn places_held(line: &[u8], at: usize, n: usize, k: usize, bytes: &[u8]) -> bool
-    requires { (ps : List (Place ℕ)) × PlacesFit line.now at n k ps bytes.now }
-    ensures { (ps : List (Place ℕ)) → PlacesFit line.now at n k ps bytes.now → Tells result (At bytes.now (places_at k) (places_row ps)) }
+fn places_held(line: &[u8], at: usize, n: usize, k: usize, bytes: &Bytes) -> bool
+    requires { (ps : List (Place ℕ)) × PlacesFit line.now at n k ps }
+    ensures { (ps : List (Place ℕ)) → PlacesFit line.now at n k ps → Tells result (At bytes.now (places_at k) (places_row ps)) }
 {
     let behind = Tables::ROWS + (k + 1) * Tables::ROW - Tables::PLACES + n;
     (areas::places(bytes, k) == n)
@@ -307,12 +288,12 @@ fn bracket_held(
     line: &[u8],
     sheet: &Sheet,
     k: usize,
-    bytes: &[u8],
-    numbers: &[i64],
+    bytes: &Bytes,
+    numbers: &Numbers,
     seen: Seen,
 ) -> Seen
-    requires { (b : Bracket ℕ) × BracketThere line.now sheet.now.heads sheet.now.parts sheet.now.masses sheet.now.scores k seen.texts b bytes.now numbers.now }
-    ensures { (b : Bracket ℕ) → BracketThere line.now sheet.now.heads sheet.now.parts sheet.now.masses sheet.now.scores k seen.texts b bytes.now numbers.now → BracketSeen k b bytes.now numbers.now seen result }
+    requires { (b : Bracket ℕ) × BracketThere line.now sheet.now.heads sheet.now.parts sheet.now.masses sheet.now.scores k seen.texts b }
+    ensures { (b : Bracket ℕ) → BracketThere line.now sheet.now.heads sheet.now.parts sheet.now.masses sheet.now.scores k seen.texts b → BracketSeen k b bytes.now numbers.now seen result }
 {
     let m = sheet.base_of(k);
     let n = sheet.parts_of(k);
@@ -332,8 +313,8 @@ fn bracket_held(
 // ---- a line
 
 // Zeros behind n brackets and t bytes of texts?
-fn rest_held(n: usize, t: usize, bytes: &[u8], numbers: &[i64]) -> bool
-    requires { (n ≤ bracket_limit) × (t ≤ line_limit) × (bytes_size ≤ length bytes.now) × (numbers_size ≤ length numbers.now) }
+fn rest_held(n: usize, t: usize, bytes: &Bytes, numbers: &Numbers) -> bool
+    requires { (n ≤ bracket_limit) × (t ≤ line_limit) }
     ensures { Tells result (RestHeld n t bytes.now numbers.now) }
 {
     let lacking = Tables::BRACKETS - n;
@@ -348,10 +329,10 @@ pub fn holds(
     sheet: &Sheet,
     residues: usize,
     brackets: usize,
-    bytes: &[u8],
-    numbers: &[i64],
+    bytes: &Bytes,
+    numbers: &Numbers,
 ) -> bool
-    requires { ((l : Line ℕ) × LineNoted line.now sheet.now residues brackets l) × (bytes_size ≤ length bytes.now) × (numbers_size ≤ length numbers.now) }
+    requires { (l : Line ℕ) × LineNoted line.now sheet.now residues brackets l }
     ensures { result ≡ reads_to (outcome line.now) (take bytes_size bytes.now) (take numbers_size numbers.now) }
 {
     let mut seen = Seen {

@@ -42,7 +42,7 @@ back r h e = to_z-of_z {w = w64} {z = r} (record { sfits = h }) ∙ e
 
 -- ---- a part
 module _ {line parts : List ℕ} {masses : List ℤ} {m k j t : ℕ} (h : RowFits line parts masses m k j t) where
-  label_long : length (part (label_from_field parts m) (label_length parts m) line) ≡ label_length parts m
+  pub label_long : length (part (label_from_field parts m) (label_length parts m) line) ≡ label_length parts m
   label_long = part_length (label_from_field parts m) (label_length parts m) line (omega (arith, h.label_order, h.label_inside))
 
   -- the text, the label behind it, the row, the mass

@@ -1,3 +1,4 @@
+use borrow.Author.Rules.{rules}
 use native.Mathlib.Omega.{arith}
 use mathlib.Core.Path.{refl}
 use Rattle.held.proofs.BracketLaws.{frame_fits, some_places, parting_start, parting_fits, parting_next, parting_end}
@@ -35,5 +36,5 @@ loop-j-preserved c = parting_next c.loop-j.invariant (omega arith) c.part_held-u
 
 pub returns : goal.returns
 returns c =
-    parting_end c.loop-j.invariant (omega arith) refl c.frame_held.ensures c.places_of-at.ensures.0 c.many_of-many.ensures.0
+    parting_end c.loop-j.invariant (search rules) (omega arith) refl c.frame_held.ensures c.places_of-at.ensures.0 c.many_of-many.ensures.0
     c.places_held.ensures

@@ -1,12 +1,12 @@
 -- `held::head_held` meets its contract: the fields of the two rows, one by one. Assumes nothing.
-use native.Mathlib.Omega.{arith}
+use borrow.Author.Rules.{rules}
 use Rattle.held.proofs.Joins.{tells_equal}
 use Rattle.held.proofs.FieldLaws.{head_told}
 use Rattle.held.proofs.head_held.Goals as goal
 
 pub returns : goal.returns
 returns c =
-    head_told (record { low = λ i. omega (arith, c.shared_slice_known-1.given i); long = c.requires.1 }) c.args.k c.requires.0
+    head_told (record { low = c.fits-bytes; long = search rules }) c.args.k c.requires
     (tells_equal c.kind.ensures.0 c.kind_of.ensures.0)
     (tells_equal c.first.ensures.0 c.first_of.ensures.0)
     (tells_equal c.last.ensures.0 c.last_of.ensures.0)

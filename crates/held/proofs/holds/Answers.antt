@@ -3,14 +3,10 @@ use Rattle.held.proofs.LineLaws.{front_fits, bracketing_start, bracketing_fits, 
 use Rattle.held.proofs.holds.Goals as goal
 
 pub front_held-requires : goal.front_held-requires
-front_held-requires c =
-    let pre = c.requires in
-    front_fits pre.0.1 pre.1
+front_held-requires c = front_fits c.requires.1
 
 pub loop-k-init : goal.loop-k-init
-loop-k-init c =
-    let pre = c.requires in
-    bracketing_start _ pre.0.1 pre.1 pre.2
+loop-k-init c = bracketing_start _ c.requires.1
 
 pub bracket_held-seen-requires : goal.bracket_held-seen-requires
 bracket_held-seen-requires c = bracketing_fits c.loop-k.invariant (omega arith)

@@ -27,7 +27,7 @@ loop-i-preserved c =
     let i = c.loop-i.i in
     let top = c.loop-i.top in
     let b = get_or s.bytes.now (s.at + i) 0 in
-    subst (λ so. Matched s.bytes.now (replicate s.n 0) s.at s.n (i + 1) so) (larger_zero top b ∙ ap (λ x. eqb x 0) (sym c.larger-top.ensures))
+    subst (λ so. Matched s.bytes.now (replicate s.n 0) s.at s.n (i + 1) so) (larger_zero top b ∙ ap (λ x. eqb x 0) (sym c.max-top.ensures))
     (matched_more c.loop-i.invariant (omega arith) 0 0 (get_or-replicate s.n i 0 0 (omega arith)) (tells_equal {x = b} refl refl))
 
 pub returns : goal.returns

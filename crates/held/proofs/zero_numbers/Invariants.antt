@@ -1,5 +1,4 @@
 -- `held::zero_numbers` meets its contract. The loop: the numbers from i on are left. Assumes nothing.
-use Prim.Native.Nat.{◌-◌}
 use lib.IntN.{pos}
 use lib.ListN.{replicate}
 use Rattle.held.proofs.Places.{Matched}
@@ -7,6 +6,3 @@ use Rattle.held.proofs.zero_numbers.Given as goal
 
 abbrev pub invariant-loop-i : goal.invariant-loop-i
 invariant-loop-i l = Matched l.numbers (replicate l.n (pos 0)) l.at l.n l.i l.so
-
-abbrev pub decreases-loop-i : goal.decreases-loop-i
-decreases-loop-i l = l.n - l.i

@@ -22,10 +22,7 @@ fn reads_to(line: &[u8], bytes: &[u8], numbers: &[i64]) -> bool
     ensures { result ≡ reads_to (outcome line.now) (take bytes_size bytes.now) (take numbers_size numbers.now) }
 {
     let mut sheet = Sheet::new();
-    let judged = verdict::judge(
-        line,
-        &mut sheet,
-    );
+    let judged = verdict::judge(line, &mut sheet);
     match judged {
         Judged::Refused {
             number: _,
@@ -35,10 +32,7 @@ fn reads_to(line: &[u8], bytes: &[u8], numbers: &[i64]) -> bool
             residues,
             brackets,
             floaters: _,
-        } => held::holds(
-            line, &sheet, residues, brackets, bytes,
-            numbers,
-        ),
+        } => held::holds(line, &sheet, residues, brackets, bytes, numbers),
     }
 }
 

@@ -18,10 +18,10 @@ use Rattle.chunks.specs.Feeding.{hold_limit, Between, holding, kept, after, put,
 use Rattle.chunks.specs.Laws.{after_append, put_append, after_line, put_line, after_few}
 use Rattle.chunks.specs.TooLong.{entry_front_lem, refusal_front}
 use Rattle.chunks.specs.Cuts.{LineEnd, Cuts}
-use Rattle.chunks.specs.Lent.{Lent, HasRoom, Ready}
+use Rattle.chunks.specs.Lent.{Ready}
 use Rattle.chunks.specs.Puts.{Fronts, Runs, Feeds}
 use Rattle.chunks.proofs.Cutting.{part_none, part_more, part_join}
-use Rattle.chunks.proofs.Room.{SameLong, same_long, long_twice, still_roomy, still_clean}
+use Rattle.chunks.proofs.Room.{still_clean}
 
 -- ---- a text at the front of an output
 pub fronts : (o t left : List ℕ) (n : ℕ) → left ≡ stored o 0 t → n ≡ length t → n ≤ length o → length left ≡ length o → Fronts t o left n
@@ -61,12 +61,12 @@ pub stays_few : {number refused : ℕ} (h t : List ℕ) {line total : ℕ} {g : 
 stays_few {number} {refused} h t e few = subst (λ s. s.refused < s.number) e (after_few (holding number refused h) t few)
 
 -- ---- the lines that lie whole in a chunk
-module _ (chunk : List ℕ) (from number refused : ℕ) (sheet₀ : Lent) (bytes₀ : List ℕ) (numbers₀ : List ℤ) (out₀ : List ℕ) (at : ℕ) where
+module _ (chunk : List ℕ) (from number refused : ℕ) (bytes₀ : List ℕ) (numbers₀ : List ℤ) (out₀ : List ℕ) (at : ℕ) where
   abbrev first : Between
   first = holding number refused []
 
   -- they are put up to `next`
-  pub record Goes (next line total n : ℕ) (sheet : Lent) (bytes : List ℕ) (numbers : List ℤ) (out : List ℕ) : Type 0 where
+  pub record Goes (next line total n : ℕ) (bytes : List ℕ) (numbers : List ℤ) (out : List ℕ) : Type 0 where
     pub past : from ≤ next
     pub inside : next ≤ length chunk
     pub grows : number ≤ line
@@ -75,16 +75,14 @@ module _ (chunk : List ℕ) (from number refused : ℕ) (sheet₀ : Lent) (bytes
     pub puts : out ≡ stored out₀ at (put first (part from next chunk))
     pub ends : n ≡ at + length (put first (part from next chunk))
     pub fits : n ≤ length out₀
-    pub roomy : HasRoom sheet
     pub clean : Clean bytes numbers
-    pub sheet_long : SameLong sheet₀ sheet
     pub bytes_long : length bytes ≡ length bytes₀
     pub numbers_long : length numbers ≡ length numbers₀
     pub out_long : length out ≡ length out₀
 
-  pub goes_start : from ≤ length chunk → HasRoom sheet₀ → Clean bytes₀ numbers₀ → at ≤ length out₀ → Goes from number refused at sheet₀ bytes₀ numbers₀ out₀
+  pub goes_start : from ≤ length chunk → Clean bytes₀ numbers₀ → at ≤ length out₀ → Goes from number refused at bytes₀ numbers₀ out₀
   unfolding after put stored
-  goes_start h g w k =
+  goes_start h w k =
       let none : length (put first (part from from chunk)) ≡ 0 = ap (λ z. length (put first z)) (part_none from chunk) in
       record {
         past = omega arith;
@@ -95,20 +93,18 @@ module _ (chunk : List ℕ) (from number refused : ℕ) (sheet₀ : Lent) (bytes
         puts = ap (λ z. stored out₀ at (put first z)) (sym (part_none from chunk));
         ends = omega (arith, none);
         fits = k;
-        roomy = g;
         clean = w;
-        sheet_long = same_long;
         bytes_long = refl;
         numbers_long = refl;
         out_long = refl;
       }
 
   -- a line more
-  pub goes_line : {next line total n : ℕ} {sheet : Lent} {bytes : List ℕ} {numbers : List ℤ} {out : List ℕ} {end : ℕ} {out' : List ℕ} {r : ℕ} {so : Bool} {one : ℕ} {sheet' : Lent} {bytes' : List ℕ} {numbers' : List ℤ}
-      → Goes next line total n sheet bytes numbers out → LineEnd chunk next end → (end ≡ length chunk → ⊥)
+  pub goes_line : {next line total n : ℕ} {bytes : List ℕ} {numbers : List ℤ} {out : List ℕ} {end : ℕ} {out' : List ℕ} {r : ℕ} {so : Bool} {one : ℕ} {bytes' : List ℕ} {numbers' : List ℤ}
+      → Goes next line total n bytes numbers out → LineEnd chunk next end → (end ≡ length chunk → ⊥)
       → Printed entry_limit out n (entry line (part next end chunk)) out' r bytes numbers bytes' numbers' × (so ≡ is_refused (outcome (part next end chunk)))
-      → (one ≡ cond so 1 0) × (one ≤ 1) → SameLong sheet sheet' → n + entry_limit ≤ length out → Goes (end + 1) (line + 1) (total + one) r sheet' bytes' numbers' out'
-  goes_line {next} {line} {total} {n} {sheet} {bytes} {numbers} {out} {end} {out'} {r} {so} {one} w m q printed c u h =
+      → (one ≡ cond so 1 0) × (one ≤ 1) → n + entry_limit ≤ length out → Goes (end + 1) (line + 1) (total + one) r bytes' numbers' out'
+  goes_line {next} {line} {total} {n} {bytes} {numbers} {out} {end} {out'} {r} {so} {one} w m q printed c h =
       let p = printed.0 in
       let s = holding line total [] in
       let t = part next end chunk in
@@ -134,15 +130,13 @@ module _ (chunk : List ℕ) (from number refused : ℕ) (sheet₀ : Lent) (bytes
             ∙ sym (stored_append out₀ at before e) ∙ ap (stored out₀ at) (sym text);
         ends = omega (arith, p.puts.ends, a, length-append before e, ap length text);
         fits = omega (arith, p.puts.near, w.out_long);
-        roomy = still_roomy w.roomy u;
         clean = still_clean p w.clean;
-        sheet_long = long_twice w.sheet_long u;
         bytes_long = ap length p.bytes_same ∙ w.bytes_long;
         numbers_long = ap length p.numbers_same ∙ w.numbers_long;
         out_long = p.out_long ∙ w.out_long;
       }
 
-  pub goes_end : {next line total n : ℕ} {sheet : Lent} {bytes : List ℕ} {numbers : List ℤ} {out : List ℕ} → Goes next line total n sheet bytes numbers out
+  pub goes_end : {next line total n : ℕ} {bytes : List ℕ} {numbers : List ℤ} {out : List ℕ} → Goes next line total n bytes numbers out
       → Runs chunk from number refused out₀ at next line total 0 out n × Clean bytes numbers
   goes_end w = (
     record {
@@ -162,10 +156,10 @@ module _ (chunk : List ℕ) (from number refused : ℕ) (sheet₀ : Lent) (bytes
 
 -- ---- a part of a chunk, taken in
 -- the line that is begun goes on past it
-pub feeds_held : {chunk : List ℕ} {from number refused : ℕ} {hold : List ℕ} {held : ℕ} {sheet : Lent} {bytes : List ℕ} {numbers : List ℤ} {out holds : List ℕ} {n next : ℕ} {e : Bool}
-    → Ready hold held sheet bytes numbers out → Cuts chunk from hold held holds n next e → e ≡ false
-    → Feeds chunk from number refused hold held out next number refused holds n out 0 × Ready holds n sheet bytes numbers out
-feeds_held {chunk} {from} {number} {refused} {hold} {held} {sheet} {bytes} {numbers} {out} {holds} {n} {next} w c q =
+pub feeds_held : {chunk : List ℕ} {from number refused : ℕ} {hold : List ℕ} {held : ℕ} {bytes : List ℕ} {numbers : List ℤ} {out holds : List ℕ} {n next : ℕ} {e : Bool}
+    → Ready hold held bytes numbers out → Cuts chunk from hold held holds n next e → e ≡ false
+    → Feeds chunk from number refused hold held out next number refused holds n out 0 × Ready holds n bytes numbers out
+feeds_held {chunk} {from} {number} {refused} {hold} {held} {bytes} {numbers} {out} {holds} {n} {next} w c q =
     let m = subst (λ z. Cuts chunk from hold held holds n next z) q c in (
       record {
         inside = m.inside;
@@ -176,17 +170,17 @@ feeds_held {chunk} {from} {number} {refused} {hold} {held} {sheet} {bytes} {numb
         leaves = m.leaves number refused;
         puts = record { fits = omega arith; front = sym (m.puts number refused); rest = refl };
       },
-      record { room = m.room; within = m.within; roomy = w.roomy; clean = w.clean; wide = w.wide; narrow = w.narrow },
+      record { room = m.room; within = m.within; clean = w.clean; wide = w.wide; narrow = w.narrow },
     )
 
 -- it ends, and lines behind it
-pub feeds_lines : {chunk : List ℕ} {from number refused : ℕ} {hold : List ℕ} {held : ℕ} {sheet : Lent} {bytes : List ℕ} {numbers : List ℤ} {out holds : List ℕ} {n next : ℕ} {e : Bool}
-    → {out' : List ℕ} {at : ℕ} {so : Bool} {one : ℕ} {bytes' : List ℕ} {numbers' : List ℤ} {next' line total k : ℕ} {out'' : List ℕ} {m : ℕ} {sheet'' : Lent} {bytes'' : List ℕ} {numbers'' : List ℤ}
-    → Ready hold held sheet bytes numbers out → Cuts chunk from hold held holds n next e → e ≡ true
+pub feeds_lines : {chunk : List ℕ} {from number refused : ℕ} {hold : List ℕ} {held : ℕ} {bytes : List ℕ} {numbers : List ℤ} {out holds : List ℕ} {n next : ℕ} {e : Bool}
+    → {out' : List ℕ} {at : ℕ} {so : Bool} {one : ℕ} {bytes' : List ℕ} {numbers' : List ℤ} {next' line total k : ℕ} {out'' : List ℕ} {m : ℕ} {bytes'' : List ℕ} {numbers'' : List ℤ}
+    → Ready hold held bytes numbers out → Cuts chunk from hold held holds n next e → e ≡ true
     → Printed entry_limit out 0 (entry number (part 0 n holds)) out' at bytes numbers bytes' numbers' × (so ≡ is_refused (outcome (part 0 n holds)))
-    → (one ≡ cond so 1 0) × (one ≤ 1) → Runs chunk next (number + 1) (refused + one) out' at next' line total k out'' m → SameLong sheet sheet'' → Clean bytes'' numbers''
-    → Feeds chunk from number refused hold held out next' line total holds k out'' m × Ready holds k sheet'' bytes'' numbers'' out''
-feeds_lines {chunk} {from} {number} {refused} {hold} {held} {sheet} {bytes} {numbers} {out} {holds} {n} {next} {e} {out'} {at} {so} {one} {bytes'} {numbers'} {next'} {line} {total} {k} {out''} {m} w c q printed o g u clear =
+    → (one ≡ cond so 1 0) × (one ≤ 1) → Runs chunk next (number + 1) (refused + one) out' at next' line total k out'' m → Clean bytes'' numbers''
+    → Feeds chunk from number refused hold held out next' line total holds k out'' m × Ready holds k bytes'' numbers'' out''
+feeds_lines {chunk} {from} {number} {refused} {hold} {held} {bytes} {numbers} {out} {holds} {n} {next} {e} {out'} {at} {so} {one} {bytes'} {numbers'} {next'} {line} {total} {k} {out''} {m} w c q printed o g clear =
     let p = printed.0 in
     let d = subst (λ z. Cuts chunk from hold held holds n next z) q c in
     let s = holding number refused (take held hold) in
@@ -214,7 +208,7 @@ feeds_lines {chunk} {from} {number} {refused} {hold} {held} {sheet} {bytes} {num
             ∙ ap (λ z. holding line total (take z holds)) (sym g.none_held);
         puts = subst (λ z. Fronts z out out'' m) (sym text) (fronts out (first ++ more) out'' m holds_text ends-text (omega (arith, g.fits, p.out_long)) long);
       },
-      record { room = d.room; within = omega (arith, g.none_held); roomy = still_roomy w.roomy u; clean = clear; wide = omega (arith, w.wide, long); narrow = omega (arith, w.narrow, long) },
+      record { room = d.room; within = omega (arith, g.none_held); clean = clear; wide = omega (arith, w.wide, long); narrow = omega (arith, w.narrow, long) },
     )
 
 -- ---- the end of the input
@@ -230,10 +224,10 @@ last_refusal : (l : List ℕ) → 0 < length l → last_refused l ≡ is_refused
 last_refusal [] h = absurd (omega arith)
 last_refusal (b ∷ l) h = refl
 
-pub ends_line : (n : ℕ) (hold out : List ℕ) (held r : ℕ) (so : Bool) (out' : List ℕ) (sheet : Lent) (bytes : List ℕ) (numbers : List ℤ) (bytes' : List ℕ) (numbers' : List ℤ) → Ready hold held sheet bytes numbers out → 0 < held
+pub ends_line : (n : ℕ) (hold out : List ℕ) (held r : ℕ) (so : Bool) (out' : List ℕ) (bytes : List ℕ) (numbers : List ℤ) (bytes' : List ℕ) (numbers' : List ℤ) → Ready hold held bytes numbers out → 0 < held
     → Printed entry_limit out 0 (entry n (part 0 held hold)) out' r bytes numbers bytes' numbers' × (so ≡ is_refused (outcome (part 0 held hold)))
     → Fronts (last_put n (take held hold)) out out' r × (so ≡ last_refused (take held hold))
-ends_line n hold out held r so out' sheet bytes numbers bytes' numbers' w h q =
+ends_line n hold out held r so out' bytes numbers bytes' numbers' w h q =
     let all = whole_front held hold in
     let p = subst (λ z. Printed entry_limit out 0 (entry n z) out' r bytes numbers bytes' numbers') all q.0 in
     let k : length (take held hold) ≡ held = length-take-le held hold (omega (arith, w.room, w.within)) in

@@ -7,17 +7,17 @@
 ghost use Rattle.std.specs.Prelude.{◌≡◌, cond, not, ◌||◌, ◌+◌, ◌<◌, ◌≤◌, min, eqb, length, take};
 ghost use Rattle.scope.specs.Refusals.{outcome};
 ghost use Rattle.entries.specs.Entry.{entry, entry_limit, is_refused, Printed};
-ghost use Rattle.sheet.specs.Rows.{Roomy};
 ghost use Rattle.store.specs.Filled.{Clean};
 ghost use Rattle.chunks.specs.Lines.{line_end};
 ghost use Rattle.chunks.specs.Feeding.{hold_limit, last_put, last_refused, part, plain};
 ghost use Rattle.chunks.specs.Cuts.{stride_size, Passed, LineEnd, Keeps, Cuts};
-ghost use Rattle.chunks.specs.Lent.{number_limit, sheet_of, Ready};
+ghost use Rattle.chunks.specs.Lent.{number_limit, Ready};
 ghost use Rattle.chunks.specs.Puts.{Fronts, Runs, Feeds};
 
 use bounds::copy_bytes;
 use entries::{ENTRY, Entered, NEWLINE, put_entry};
 use scope::tables::Tables;
+use sheet::Sheet;
 
 // So many bytes are looked at together for the end of a line.
 const STRIDE: usize = 16;
@@ -143,34 +143,16 @@ fn put_part(
     line: &[u8],
     from: usize,
     end: usize,
-    letters: &mut [u8],
-    sections: &mut [u8],
-    heads: &mut [u16],
-    parts: &mut [u16],
-    masses: &mut [i64],
-    scores: &mut [i64],
+    sheet: &mut Sheet,
     bytes: &mut [u8],
     numbers: &mut [i64],
     out: &mut [u8],
     at: usize,
 ) -> Entered
-    requires { (from ≤ end) × (end ≤ length line.now) × Roomy letters.old sections.old heads.old parts.old masses.old scores.old × Clean bytes.old numbers.old × (at + entry_limit ≤ length out.old) }
+    requires { (from ≤ end) × (end ≤ length line.now) × Clean bytes.old numbers.old × (at + entry_limit ≤ length out.old) }
     ensures { Printed entry_limit out.old at (entry number (part from end line.now)) out.new result.next bytes.old numbers.old bytes.new numbers.new × (result.refused ≡ is_refused (outcome (part from end line.now))) }
 {
-    put_entry(
-        number,
-        &line[from..end],
-        letters,
-        sections,
-        heads,
-        parts,
-        masses,
-        scores,
-        bytes,
-        numbers,
-        out,
-        at,
-    )
+    put_entry(number, &line[from..end], sheet, bytes, numbers, out, at)
 }
 
 // One where it is so, else none: for counting.
@@ -189,18 +171,13 @@ fn put_lines(
     from: usize,
     number: u64,
     refused: u64,
-    letters: &mut [u8],
-    sections: &mut [u8],
-    heads: &mut [u16],
-    parts: &mut [u16],
-    masses: &mut [i64],
-    scores: &mut [i64],
+    sheet: &mut Sheet,
     bytes: &mut [u8],
     numbers: &mut [i64],
     out: &mut [u8],
     at: usize,
 ) -> Fed
-    requires { (from ≤ length chunk.now) × (number + length chunk.now ≤ number_limit + from) × Roomy letters.old sections.old heads.old parts.old masses.old scores.old × Clean bytes.old numbers.old × (at ≤ length out.old) × (refused < number) }
+    requires { (from ≤ length chunk.now) × (number + length chunk.now ≤ number_limit + from) × Clean bytes.old numbers.old × (at ≤ length out.old) × (refused < number) }
     ensures { Runs chunk.now from number refused out.old at result.next result.number result.refused result.held out.new result.put × Clean bytes.new numbers.new }
 {
     let mut next = from;
@@ -218,10 +195,7 @@ fn put_lines(
                 put: n,
             };
         }
-        let entered = put_part(
-            line, chunk, next, end, letters, sections, heads, parts, masses, scores, bytes,
-            numbers, out, n,
-        );
+        let entered = put_part(line, chunk, next, end, sheet, bytes, numbers, out, n);
         n = entered.next;
         total += one_if(entered.refused);
         next = end + 1;
@@ -245,18 +219,13 @@ pub fn feed(
     refused: u64,
     hold: &mut [u8],
     held: usize,
-    letters: &mut [u8],
-    sections: &mut [u8],
-    heads: &mut [u16],
-    parts: &mut [u16],
-    masses: &mut [i64],
-    scores: &mut [i64],
+    sheet: &mut Sheet,
     bytes: &mut [u8],
     numbers: &mut [i64],
     out: &mut [u8],
 ) -> Fed
-    requires { (from ≤ length chunk.now) × (number + length chunk.now ≤ number_limit + from) × Ready hold.old held (sheet_of letters.old sections.old heads.old parts.old masses.old scores.old) bytes.old numbers.old out.old × (refused < number) }
-    ensures { Feeds chunk.now from number refused hold.old held out.old result.next result.number result.refused hold.new result.held out.new result.put × Ready hold.new result.held (sheet_of letters.new sections.new heads.new parts.new masses.new scores.new) bytes.new numbers.new out.new }
+    requires { (from ≤ length chunk.now) × (number + length chunk.now ≤ number_limit + from) × Ready hold.old held bytes.old numbers.old out.old × (refused < number) }
+    ensures { Feeds chunk.now from number refused hold.old held out.old result.next result.number result.refused hold.new result.held out.new result.put × Ready hold.new result.held bytes.new numbers.new out.new }
 {
     let cut = gather(chunk, from, hold, held);
     let next = cut.next;
@@ -270,9 +239,7 @@ pub fn feed(
             put: 0,
         };
     }
-    let entered = put_part(
-        number, hold, 0, n, letters, sections, heads, parts, masses, scores, bytes, numbers, out, 0,
-    );
+    let entered = put_part(number, hold, 0, n, sheet, bytes, numbers, out, 0);
     let at = entered.next;
     let total = refused + one_if(entered.refused);
     put_lines(
@@ -280,12 +247,7 @@ pub fn feed(
         next,
         number + 1,
         total,
-        letters,
-        sections,
-        heads,
-        parts,
-        masses,
-        scores,
+        sheet,
         bytes,
         numbers,
         out,
@@ -298,17 +260,12 @@ pub fn finish(
     number: u64,
     hold: &[u8],
     held: usize,
-    letters: &mut [u8],
-    sections: &mut [u8],
-    heads: &mut [u16],
-    parts: &mut [u16],
-    masses: &mut [i64],
-    scores: &mut [i64],
+    sheet: &mut Sheet,
     bytes: &mut [u8],
     numbers: &mut [i64],
     out: &mut [u8],
 ) -> Entered
-    requires { Ready hold.now held (sheet_of letters.old sections.old heads.old parts.old masses.old scores.old) bytes.old numbers.old out.old }
+    requires { Ready hold.now held bytes.old numbers.old out.old }
     ensures { Fronts (last_put number (take held hold.now)) out.old out.new result.next × (result.refused ≡ last_refused (take held hold.now)) }
 {
     if held == 0 {
@@ -317,8 +274,5 @@ pub fn finish(
             refused: false,
         };
     }
-    put_part(
-        number, hold, 0, held, letters, sections, heads, parts, masses, scores, bytes, numbers,
-        out, 0,
-    )
+    put_part(number, hold, 0, held, sheet, bytes, numbers, out, 0)
 }

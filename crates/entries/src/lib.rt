@@ -7,7 +7,6 @@ ghost use Rattle.scope.specs.Canonical.{decimal};
 ghost use Rattle.scope.specs.Register.{signed_text, total_text, fields, report};
 ghost use Rattle.scope.specs.Refusals.{outcome};
 ghost use Rattle.scope.specs.Layout.{tables_in};
-ghost use Rattle.sheet.specs.Rows.{Roomy};
 ghost use Rattle.store.specs.Filled.{Clean, Fills};
 ghost use Rattle.figures.specs.Written.{Puts, ceiling};
 ghost use Rattle.entries.specs.Entry.{entry, field_most, weight_most, refused_most, counts_most, total_most, accepted_most, tables_most, entry_limit, count_fields, ok_fields, no_fields, weight_text, is_refused, Known, Floats, Printed};
@@ -16,6 +15,7 @@ use figures::DIGITS;
 use masses::{Weight, weigh};
 use reader::wipe;
 use scope::tables::Tables;
+use sheet::Sheet;
 use store::store;
 use verdict::Judged;
 
@@ -122,12 +122,7 @@ fn put_accepted(
 // Of an accepted line that is noted in the sheet and has so many floaters, by way of its tables.
 fn put_taken(
     line: &[u8],
-    letters: &[u8],
-    sections: &[u8],
-    heads: &[u16],
-    parts: &[u16],
-    masses: &[i64],
-    scores: &[i64],
+    sheet: &Sheet,
     residues: usize,
     brackets: usize,
     floaters: usize,
@@ -136,12 +131,10 @@ fn put_taken(
     out: &mut [u8],
     at: usize,
 ) -> usize
-    requires { Fills line.now letters.now sections.now heads.now parts.now masses.now scores.now residues brackets bytes.old numbers.old × Floats line.now floaters × (at + tables_most ≤ ceiling) }
+    requires { Fills line.now sheet.now residues brackets bytes.old numbers.old × Floats line.now floaters × (at + tables_most ≤ ceiling) }
     ensures { Printed accepted_most out.old at (report (outcome line.now)) out.new result bytes.old numbers.old bytes.new numbers.new }
 {
-    store(
-        line, letters, sections, heads, parts, masses, scores, residues, brackets, bytes, numbers,
-    );
+    store(line, sheet, residues, brackets, bytes, numbers);
     let r = put_accepted(bytes, numbers, residues, brackets, floaters, out, at);
     wipe(line.len(), bytes, numbers);
     r
@@ -159,21 +152,16 @@ pub struct Entered {
 // What is printed behind the number: of an accepted line by way of its tables, of a refused one the refusal.
 fn put_report(
     line: &[u8],
-    letters: &mut [u8],
-    sections: &mut [u8],
-    heads: &mut [u16],
-    parts: &mut [u16],
-    masses: &mut [i64],
-    scores: &mut [i64],
+    sheet: &mut Sheet,
     bytes: &mut [u8],
     numbers: &mut [i64],
     out: &mut [u8],
     at: usize,
 ) -> Entered
-    requires { Roomy letters.old sections.old heads.old parts.old masses.old scores.old × Clean bytes.old numbers.old × (at + tables_most ≤ ceiling) }
+    requires { Clean bytes.old numbers.old × (at + tables_most ≤ ceiling) }
     ensures { Printed accepted_most out.old at (report (outcome line.now)) out.new result.next bytes.old numbers.old bytes.new numbers.new × (result.refused ≡ is_refused (outcome line.now)) }
 {
-    let judged = verdict::judge(line, letters, sections, heads, parts, masses, scores);
+    let judged = verdict::judge(line, sheet);
     match judged {
         Judged::Holds {
             residues,
@@ -181,8 +169,7 @@ fn put_report(
             floaters,
         } => {
             let next = put_taken(
-                line, letters, sections, heads, parts, masses, scores, residues, brackets,
-                floaters, bytes, numbers, out, at,
+                line, sheet, residues, brackets, floaters, bytes, numbers, out, at,
             );
             return Entered {
                 next,
@@ -203,23 +190,16 @@ fn put_report(
 fn put_front(
     number: u64,
     line: &[u8],
-    letters: &mut [u8],
-    sections: &mut [u8],
-    heads: &mut [u16],
-    parts: &mut [u16],
-    masses: &mut [i64],
-    scores: &mut [i64],
+    sheet: &mut Sheet,
     bytes: &mut [u8],
     numbers: &mut [i64],
     out: &mut [u8],
 ) -> Entered
-    requires { Roomy letters.old sections.old heads.old parts.old masses.old scores.old × Clean bytes.old numbers.old }
+    requires { Clean bytes.old numbers.old }
     ensures { Printed entry_limit out.old 0 (entry number line.now) out.new result.next bytes.old numbers.old bytes.new numbers.new × (result.refused ≡ is_refused (outcome line.now)) }
 {
     let a = figures::put_decimal(number, out, 0);
-    let e = put_report(
-        line, letters, sections, heads, parts, masses, scores, bytes, numbers, out, a,
-    );
+    let e = put_report(line, sheet, bytes, numbers, out, a);
     let next = figures::put(out, e.next, NEWLINE);
     Entered {
         next,
@@ -232,33 +212,16 @@ fn put_front(
 pub fn put_entry(
     number: u64,
     line: &[u8],
-    letters: &mut [u8],
-    sections: &mut [u8],
-    heads: &mut [u16],
-    parts: &mut [u16],
-    masses: &mut [i64],
-    scores: &mut [i64],
+    sheet: &mut Sheet,
     bytes: &mut [u8],
     numbers: &mut [i64],
     out: &mut [u8],
     at: usize,
 ) -> Entered
-    requires { Roomy letters.old sections.old heads.old parts.old masses.old scores.old × Clean bytes.old numbers.old × (at + entry_limit ≤ length out.old) }
+    requires { Clean bytes.old numbers.old × (at + entry_limit ≤ length out.old) }
     ensures { Printed entry_limit out.old at (entry number line.now) out.new result.next bytes.old numbers.old bytes.new numbers.new × (result.refused ≡ is_refused (outcome line.now)) }
 {
-    let e = put_front(
-        number,
-        line,
-        letters,
-        sections,
-        heads,
-        parts,
-        masses,
-        scores,
-        bytes,
-        numbers,
-        &mut out[at..],
-    );
+    let e = put_front(number, line, sheet, bytes, numbers, &mut out[at..]);
     let next = at + e.next;
     Entered {
         next,

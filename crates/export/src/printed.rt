@@ -25,24 +25,14 @@ fn hand_out(text: &[u8], n: usize, out: &mut [u8], needed: &mut usize) -> u8
 pub fn hwemiduk_entry(number: u64, line: &[u8], out: &mut [u8], length: &mut usize) -> u8
     ensures { EntryHanded number line.now out.old length.old result length.new out.new }
 {
-    let mut letters = [0u8; Tables::RESIDUES];
-    let mut sections = [0u8; Tables::RESIDUES];
-    let mut heads = [0u16; Sheet::HEADS];
-    let mut parts = [0u16; Sheet::PARTS];
-    let mut masses = [0i64; Sheet::MASSES];
-    let mut scores = [0i64; Tables::BRACKETS];
+    let mut sheet = Sheet::new();
     let mut bytes = [0u8; Tables::BYTES];
     let mut numbers = [0i64; Tables::NUMBERS];
     let mut text = [0u8; ENTRY];
     let e = put_entry(
         number,
         line,
-        &mut letters,
-        &mut sections,
-        &mut heads,
-        &mut parts,
-        &mut masses,
-        &mut scores,
+        &mut sheet,
         &mut bytes,
         &mut numbers,
         &mut text,

@@ -9,9 +9,8 @@ use lib.ListN.{length, take, length-append}
 use lib.Seq.{take-add, take_all, length-take-le}
 use Rattle.chunks.specs.Feeding.{Between, holding, after, put, part}
 use Rattle.chunks.specs.Laws.{after_append, put_append}
-use Rattle.chunks.specs.Lent.{output_limit, Lent, Ready}
+use Rattle.chunks.specs.Lent.{output_limit, Ready}
 use Rattle.chunks.specs.Puts.{Fronts, Feeds}
-use Rattle.chunks.proofs.Room.{SameLong, same_long, long_twice}
 use Rattle.stream.specs.declared.End.{End}
 use Rattle.stream.specs.declared.End.TheVariants.{Whole, Unread, Unwritten}
 use Rattle.stream.specs.Owed.{Owed}
@@ -28,25 +27,24 @@ owed {chunk} {from} {number} {refused} {next = next} f =
     record { fits = f.puts.fits; text = f.puts.front ∙ ap (λ z. put (holding number refused z) (part from next chunk)) (sym f.stays) }
 
 -- ---- a whole chunk: it is taken in up to `from`, and what is put out for that was taken
-module _ (chunk : List ℕ) (number refused : ℕ) (hold₀ : List ℕ) (held : ℕ) (sheet₀ : Lent) (bytes₀ : List ℕ) (numbers₀ : List ℤ) (out₀ : List ℕ) where
+module _ (chunk : List ℕ) (number refused : ℕ) (hold₀ : List ℕ) (held : ℕ) (bytes₀ : List ℕ) (numbers₀ : List ℤ) (out₀ : List ℕ) where
   abbrev begun : Between
   begun = holding number refused (take held hold₀)
 
-  pub record ChunkTaken (from line total n sent : ℕ) (hold : List ℕ) (sheet : Lent) (bytes : List ℕ) (numbers : List ℤ) (out : List ℕ) : Type 0 where
+  pub record ChunkTaken (from line total n sent : ℕ) (hold : List ℕ) (bytes : List ℕ) (numbers : List ℤ) (out : List ℕ) : Type 0 where
     pub inside : from ≤ length chunk
     pub grows : number ≤ line
     pub count : line ≤ number + from
     pub leaves : after begun (take from chunk) ≡ holding line total (take n hold)
     pub given : sent ≡ length (put begun (take from chunk))
     pub low : sent ≤ from * output_limit
-    pub ready : Ready hold n sheet bytes numbers out
+    pub ready : Ready hold n bytes numbers out
     pub hold_long : length hold ≡ length hold₀
-    pub sheet_long : SameLong sheet₀ sheet
     pub bytes_long : length bytes ≡ length bytes₀
     pub numbers_long : length numbers ≡ length numbers₀
     pub out_long : length out ≡ length out₀
 
-  pub taken_start : Ready hold₀ held sheet₀ bytes₀ numbers₀ out₀ → ChunkTaken 0 number refused held 0 hold₀ sheet₀ bytes₀ numbers₀ out₀
+  pub taken_start : Ready hold₀ held bytes₀ numbers₀ out₀ → ChunkTaken 0 number refused held 0 hold₀ bytes₀ numbers₀ out₀
   unfolding after put
   taken_start w =
       record {
@@ -58,18 +56,17 @@ module _ (chunk : List ℕ) (number refused : ℕ) (hold₀ : List ℕ) (held : 
         low = omega arith;
         ready = w;
         hold_long = refl;
-        sheet_long = same_long;
         bytes_long = refl;
         numbers_long = refl;
         out_long = refl;
       }
 
-  pub taken_more : {from line total n sent : ℕ} {hold : List ℕ} {sheet : Lent} {bytes : List ℕ} {numbers : List ℤ} {out : List ℕ} {next line' total' n' : ℕ}
-      → {hold' : List ℕ} {sheet' : Lent} {bytes' : List ℕ} {numbers' : List ℤ} {out' : List ℕ} {m took : ℕ}
-      → ChunkTaken from line total n sent hold sheet bytes numbers out → from < length chunk → Feeds chunk from line total hold n out next line' total' hold' n' out' m
-      → Ready hold' n' sheet' bytes' numbers' out' → took ≤ m → m ≤ took → SameLong sheet sheet' → length bytes' ≡ length bytes
-      → length numbers' ≡ length numbers → length out' ≡ length out → ChunkTaken next line' total' n' (sent + took) hold' sheet' bytes' numbers' out'
-  taken_more {from} {line} {total} {n} {sent} {hold} {next = next} {m = m} w l f r a z v b u o =
+  pub taken_more : {from line total n sent : ℕ} {hold : List ℕ} {bytes : List ℕ} {numbers : List ℤ} {out : List ℕ} {next line' total' n' : ℕ}
+      → {hold' : List ℕ} {bytes' : List ℕ} {numbers' : List ℤ} {out' : List ℕ} {m took : ℕ}
+      → ChunkTaken from line total n sent hold bytes numbers out → from < length chunk → Feeds chunk from line total hold n out next line' total' hold' n' out' m
+      → Ready hold' n' bytes' numbers' out' → took ≤ m → m ≤ took → length bytes' ≡ length bytes
+      → length numbers' ≡ length numbers → length out' ≡ length out → ChunkTaken next line' total' n' (sent + took) hold' bytes' numbers' out'
+  taken_more {from} {line} {total} {n} {sent} {hold} {next = next} {m = m} w l f r a z b u o =
       let go = f.goes l in
       let s = holding line total (take n hold) in
       let e : next ≡ from + (next - from) = omega arith in
@@ -86,14 +83,13 @@ module _ (chunk : List ℕ) (number refused : ℕ) (hold₀ : List ℕ) (held : 
         low = omega (arith, w.low, f.puts.fits, r.narrow);
         ready = r;
         hold_long = r.room ∙ sym w.ready.room ∙ w.hold_long;
-        sheet_long = long_twice w.sheet_long v;
         bytes_long = b ∙ w.bytes_long;
         numbers_long = u ∙ w.numbers_long;
         out_long = o ∙ w.out_long;
       }
 
-  pub taken_all : {from line total n sent : ℕ} {hold : List ℕ} {sheet : Lent} {bytes : List ℕ} {numbers : List ℤ} {out : List ℕ} → ChunkTaken from line total n sent hold sheet bytes numbers out
-      → length chunk ≤ from → Drains chunk number refused hold₀ held line total hold n sent true Whole × Ready hold n sheet bytes numbers out
+  pub taken_all : {from line total n sent : ℕ} {hold : List ℕ} {bytes : List ℕ} {numbers : List ℤ} {out : List ℕ} → ChunkTaken from line total n sent hold bytes numbers out
+      → length chunk ≤ from → Drains chunk number refused hold₀ held line total hold n sent true Whole × Ready hold n bytes numbers out
   taken_all {from} w l =
       let all = sym (take_all from chunk l) in (
         record {
@@ -119,9 +115,9 @@ unwritten : Unwritten ≡ Whole → ⊥
 unwritten e = false≢true (ap is_whole e)
 
 -- a write failed
-pub stays_ready : {hold : List ℕ} {held : ℕ} {sheet : Lent} {bytes : List ℕ} {numbers : List ℤ} {out hold' : List ℕ} {held' : ℕ} {sheet' : Lent} {bytes' : List ℕ} {numbers' : List ℤ} {out' : List ℕ}
-    → Ready hold held sheet bytes numbers out → Ready hold' held' sheet' bytes' numbers' out' → Ready hold' held sheet' bytes' numbers' out'
-stays_ready w r = record { room = r.room; within = w.within; roomy = r.roomy; clean = r.clean; wide = r.wide; narrow = r.narrow }
+pub stays_ready : {hold : List ℕ} {held : ℕ} {bytes : List ℕ} {numbers : List ℤ} {out hold' : List ℕ} {held' : ℕ} {bytes' : List ℕ} {numbers' : List ℤ} {out' : List ℕ}
+    → Ready hold held bytes numbers out → Ready hold' held' bytes' numbers' out' → Ready hold' held bytes' numbers' out'
+stays_ready w r = record { room = r.room; within = w.within; clean = r.clean; wide = r.wide; narrow = r.narrow }
 
 pub drains_lost : {chunk : List ℕ} {number refused : ℕ} {hold : List ℕ} {held line total : ℕ} (ends : ℕ) {holds : List ℕ} {n sent : ℕ} → number ≤ line
     → Drains chunk number refused hold held (line + ends) total holds n sent false Unwritten

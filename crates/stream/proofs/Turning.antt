@@ -12,8 +12,7 @@ use Rattle.scope.specs.Layout.{bytes_size, numbers_size}
 use Rattle.sheet.specs.Rows.{heads_room, parts_room, masses_room}
 use Rattle.entries.specs.Entry.{entry_limit}
 use Rattle.chunks.specs.Feeding.{hold_limit}
-use Rattle.chunks.specs.Lent.{number_limit, output_limit, Lent, sheet_of, HasRoom, Ready}
-use Rattle.chunks.proofs.Room.{SameLong, same_long, long_twice}
+use Rattle.chunks.specs.Lent.{number_limit, output_limit, Ready}
 use Rattle.chunks.proofs.Putting.{stays_few}
 use Rattle.stream.specs.declared.End.{End}
 use Rattle.stream.specs.declared.End.TheVariants.{Unread}
@@ -29,9 +28,9 @@ came_fits {room} {room'} {n} e r l = let h : n ≤ room = subst (Received room) 
 pub front_fits : (n : ℕ) (l : List ℕ) → length l ≤ read_limit → length (take n l) ≤ read_limit
 front_fits n l h = omega (arith, length-take n l)
 
-module _ {room : List ℕ} {number refused : ℕ} {hold : List ℕ} {held line total : ℕ} {holds : List ℕ} {n : ℕ} {sheet : Lent} {bytes : List ℕ} {numbers : List ℤ} {out : List ℕ} {sent : ℕ} {more : Bool} {end : End} where
+module _ {room : List ℕ} {number refused : ℕ} {hold : List ℕ} {held line total : ℕ} {holds : List ℕ} {n : ℕ} {bytes : List ℕ} {numbers : List ℤ} {out : List ℕ} {sent : ℕ} {more : Bool} {end : End} where
   pub turns_chunk : (got : ℕ) → got ≤ length room → length room ≤ read_limit → Drains (take got room) number refused hold held line total holds n sent more end
-      → Ready holds n sheet bytes numbers out → Turns room number refused hold held line total holds n sheet bytes numbers out sent more end
+      → Ready holds n bytes numbers out → Turns room number refused hold held line total holds n bytes numbers out sent more end
   turns_chunk got h k d r =
       record {
         grows = d.grows;
@@ -44,7 +43,7 @@ module _ {room : List ℕ} {number refused : ℕ} {hold : List ℕ} {held line t
         counted = λ e f. absurd (d.lost e f);
       }
 
-  pub turns_closed : ClosesAt number refused hold held line total sent more end → Turns room number refused hold held line total holds n sheet bytes numbers out sent more end
+  pub turns_closed : ClosesAt number refused hold held line total sent more end → Turns room number refused hold held line total holds n bytes numbers out sent more end
   turns_closed c =
       record {
         grows = omega (arith, c.same);
@@ -57,8 +56,8 @@ module _ {room : List ℕ} {number refused : ℕ} {hold : List ℕ} {held line t
         counted = λ _ f. c.counted f;
       }
 
-pub turns_failed : {room : List ℕ} {number refused : ℕ} {hold : List ℕ} {held total : ℕ} {holds : List ℕ} {n : ℕ} {sheet : Lent} {bytes : List ℕ} {numbers : List ℤ} {out : List ℕ} {sent : ℕ}
-    → Turns room number refused hold held number total holds n sheet bytes numbers out sent false Unread
+pub turns_failed : {room : List ℕ} {number refused : ℕ} {hold : List ℕ} {held total : ℕ} {holds : List ℕ} {n : ℕ} {bytes : List ℕ} {numbers : List ℤ} {out : List ℕ} {sent : ℕ}
+    → Turns room number refused hold held number total holds n bytes numbers out sent false Unread
 turns_failed =
     record {
       grows = omega arith;
@@ -72,30 +71,29 @@ turns_failed =
     }
 
 -- ---- turn upon turn: as many lines are still to be numbered as reads can bring
-module _ (room₀ hold₀ : List ℕ) (sheet₀ : Lent) (bytes₀ : List ℕ) (numbers₀ : List ℤ) (out₀ : List ℕ) where
-  pub record Serves (room hold : List ℕ) (sheet : Lent) (bytes : List ℕ) (numbers : List ℤ) (out : List ℕ) (number refused held turns : ℕ) : Type 0 where
+module _ (room₀ hold₀ : List ℕ) (bytes₀ : List ℕ) (numbers₀ : List ℤ) (out₀ : List ℕ) where
+  pub record Serves (room hold : List ℕ) (bytes : List ℕ) (numbers : List ℤ) (out : List ℕ) (number refused held turns : ℕ) : Type 0 where
     pub room_fits : length room ≤ read_limit
     pub few : refused < number
     pub count : number + read_limit * turns + output_limit ≤ number_limit
-    pub ready : Ready hold held sheet bytes numbers out
+    pub ready : Ready hold held bytes numbers out
     pub room_long : length room ≡ length room₀
     pub hold_long : length hold ≡ length hold₀
-    pub sheet_long : SameLong sheet₀ sheet
     pub bytes_long : length bytes ≡ length bytes₀
     pub numbers_long : length numbers ≡ length numbers₀
     pub out_long : length out ≡ length out₀
 
-  pub serves_start : {turns : ℕ} → length room₀ ≤ read_limit → 1 + read_limit * turns + output_limit ≤ number_limit → Ready hold₀ 0 sheet₀ bytes₀ numbers₀ out₀
-      → Serves room₀ hold₀ sheet₀ bytes₀ numbers₀ out₀ 1 0 0 turns
+  pub serves_start : {turns : ℕ} → length room₀ ≤ read_limit → 1 + read_limit * turns + output_limit ≤ number_limit → Ready hold₀ 0 bytes₀ numbers₀ out₀
+      → Serves room₀ hold₀ bytes₀ numbers₀ out₀ 1 0 0 turns
   serves_start l n w =
-      record { room_fits = l; few = omega arith; count = n; ready = w; room_long = refl; hold_long = refl; sheet_long = same_long; bytes_long = refl; numbers_long = refl; out_long = refl }
+      record { room_fits = l; few = omega arith; count = n; ready = w; room_long = refl; hold_long = refl; bytes_long = refl; numbers_long = refl; out_long = refl }
 
-  pub serves_more : {room hold : List ℕ} {sheet : Lent} {bytes : List ℕ} {numbers : List ℤ} {out : List ℕ} {number refused held turns : ℕ}
-      → {room' hold' : List ℕ} {sheet' : Lent} {bytes' : List ℕ} {numbers' : List ℤ} {out' : List ℕ} {line total n sent : ℕ} {more : Bool} {end : End}
-      → Serves room hold sheet bytes numbers out number refused held turns → 0 < turns → Turns room' number refused hold held line total hold' n sheet' bytes' numbers' out' sent more end
-      → more ≡ true → length room' ≡ length room → length hold' ≡ length hold → SameLong sheet sheet' → length bytes' ≡ length bytes
-      → length numbers' ≡ length numbers → length out' ≡ length out → Serves room' hold' sheet' bytes' numbers' out' line total n (turns - 1)
-  serves_more w l t e r h v b u o =
+  pub serves_more : {room hold : List ℕ} {bytes : List ℕ} {numbers : List ℤ} {out : List ℕ} {number refused held turns : ℕ}
+      → {room' hold' : List ℕ} {bytes' : List ℕ} {numbers' : List ℤ} {out' : List ℕ} {line total n sent : ℕ} {more : Bool} {end : End}
+      → Serves room hold bytes numbers out number refused held turns → 0 < turns → Turns room' number refused hold held line total hold' n bytes' numbers' out' sent more end
+      → more ≡ true → length room' ≡ length room → length hold' ≡ length hold → length bytes' ≡ length bytes
+      → length numbers' ≡ length numbers → length out' ≡ length out → Serves room' hold' bytes' numbers' out' line total n (turns - 1)
+  serves_more w l t e r h b u o =
       record {
         room_fits = omega (arith, w.room_fits);
         few = stays_few _ _ (t.leaves e) w.few;
@@ -103,7 +101,6 @@ module _ (room₀ hold₀ : List ℕ) (sheet₀ : Lent) (bytes₀ : List ℕ) (n
         ready = t.ready e;
         room_long = r ∙ w.room_long;
         hold_long = h ∙ w.hold_long;
-        sheet_long = long_twice w.sheet_long v;
         bytes_long = b ∙ w.bytes_long;
         numbers_long = u ∙ w.numbers_long;
         out_long = o ∙ w.out_long;
@@ -113,29 +110,11 @@ module _ (room₀ hold₀ : List ℕ) (sheet₀ : Lent) (bytes₀ : List ℕ) (n
 zeros_all : {A : Type 0} (n : ℕ) (z : A) → take n (replicate n z) ≡ replicate n z
 zeros_all n z = take_all n (replicate n z) (omega (arith, length-replicate n z))
 
--- the sheet of zeros
-abbrev new_sheet : Lent
-new_sheet =
-    sheet_of (replicate residue_limit 0) (replicate residue_limit 0) (replicate heads_room 0) (replicate parts_room 0) (replicate masses_room (pos 0))
-    (replicate bracket_limit (pos 0))
-
-new_roomy : HasRoom new_sheet
-new_roomy =
-    record {
-      letters_room = omega (arith, length-replicate {A = ℕ} residue_limit 0);
-      sections_room = omega (arith, length-replicate {A = ℕ} residue_limit 0);
-      heads_room_is = omega (arith, length-replicate {A = ℕ} heads_room 0);
-      parts_room_is = omega (arith, length-replicate {A = ℕ} parts_room 0);
-      masses_room_is = omega (arith, length-replicate masses_room (pos 0));
-      scores_room = omega (arith, length-replicate bracket_limit (pos 0));
-    }
-
-pub ready_new : (room : ℕ) → entry_limit ≤ room → room ≤ output_limit → Ready (replicate hold_limit 0) 0 new_sheet (replicate bytes_size 0) (replicate numbers_size (pos 0)) (replicate room 0)
+pub ready_new : (room : ℕ) → entry_limit ≤ room → room ≤ output_limit → Ready (replicate hold_limit 0) 0 (replicate bytes_size 0) (replicate numbers_size (pos 0)) (replicate room 0)
 ready_new room h k =
     record {
       room = length-replicate {A = ℕ} hold_limit 0;
       within = omega arith;
-      roomy = new_roomy;
       clean = record {
         bytes_room = omega (arith, length-replicate {A = ℕ} bytes_size 0);
         bytes_zero = zeros_all bytes_size 0;

@@ -2,7 +2,7 @@
 use Rattle.std.specs.Prelude.{◌≡◌, Bool, true, false, List, Option, ℕ, ◌+◌, ◌<◌, ◌≤◌, ℤ, length, take}
 use Rattle.std.specs.Io.KnownBytes.{Consumes, IsAtEnd, Keeps}
 use Rattle.chunks.specs.Feeding.{holding, after, put, finished, refused_at_end}
-use Rattle.chunks.specs.Lent.{Lent, Ready}
+use Rattle.chunks.specs.Lent.{Ready}
 use Rattle.stream.specs.declared.End.{End}
 use Rattle.stream.specs.declared.End.TheVariants.{Whole}
 use Rattle.stream.specs.declared.Got.{Got}
@@ -39,10 +39,10 @@ pub record ClosesAt (number refused : ℕ) (hold : List ℕ) (held line total se
 
 -- so many bytes were read, `got`, and the room holds them: they are taken in, and all that is put out for them was taken; or the input is at its end;
 -- unless a read or a write failed
-pub record Turns (room : List ℕ) (number refused : ℕ) (hold : List ℕ) (held line total : ℕ) (holds : List ℕ) (n : ℕ) (sheet : Lent) (bytes : List ℕ) (numbers : List ℤ) (out : List ℕ) (sent : ℕ) (more : Bool) (end : End) : Type 0 where
+pub record Turns (room : List ℕ) (number refused : ℕ) (hold : List ℕ) (held line total : ℕ) (holds : List ℕ) (n : ℕ) (bytes : List ℕ) (numbers : List ℤ) (out : List ℕ) (sent : ℕ) (more : Bool) (end : End) : Type 0 where
   pub grows : number ≤ line
   pub count : more ≡ true → line ≤ number + read_limit
-  pub ready : more ≡ true → Ready holds n sheet bytes numbers out
+  pub ready : more ≡ true → Ready holds n bytes numbers out
   pub got : ℕ
   pub leaves : more ≡ true → after (holding number refused (take held hold)) (take got room) ≡ holding line total (take n holds)
   pub taken : more ≡ true → sent ≡ length (put (holding number refused (take held hold)) (take got room))

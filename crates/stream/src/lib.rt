@@ -13,7 +13,7 @@
 
 ghost use Rattle.std.specs.Prelude.{◌≡◌, ◌+◌, ◌<◌, ◌≤◌, drop, length, take};
 ghost use Rattle.std.specs.Io.KnownBytes.{Appends};
-ghost use Rattle.chunks.specs.Lent.{number_limit, output_limit, sheet_of, Ready};
+ghost use Rattle.chunks.specs.Lent.{number_limit, output_limit, Ready};
 ghost use Rattle.chunks.specs.Puts.{Fronts};
 ghost use Rattle.stream.specs.Owed.{Owed, OwedLast};
 ghost use Rattle.stream.specs.Told.{line_ends, notice_room, noticed};
@@ -236,18 +236,13 @@ fn drain<W: Write, C: Clock>(
     refused: u64,
     hold: &mut [u8],
     held: usize,
-    letters: &mut [u8],
-    sections: &mut [u8],
-    heads: &mut [u16],
-    parts: &mut [u16],
-    masses: &mut [i64],
-    scores: &mut [i64],
+    sheet: &mut Sheet,
     bytes: &mut [u8],
     numbers: &mut [i64],
     out: &mut [u8],
 ) -> Kept
-    requires { (length chunk.now ≤ read_limit) × (number + read_limit + output_limit ≤ number_limit) × Ready hold.old held (sheet_of letters.old sections.old heads.old parts.old masses.old scores.old) bytes.old numbers.old out.old × (refused < number) }
-    ensures { Drains chunk.now number refused hold.old held result.number result.refused hold.new result.held result.sent result.more result.end × Ready hold.new result.held (sheet_of letters.new sections.new heads.new parts.new masses.new scores.new) bytes.new numbers.new out.new }
+    requires { (length chunk.now ≤ read_limit) × (number + read_limit + output_limit ≤ number_limit) × Ready hold.old held bytes.old numbers.old out.old × (refused < number) }
+    ensures { Drains chunk.now number refused hold.old held result.number result.refused hold.new result.held result.sent result.more result.end × Ready hold.new result.held bytes.new numbers.new out.new }
 {
     let mut from: usize = 0;
     let mut line = number;
@@ -256,8 +251,7 @@ fn drain<W: Write, C: Clock>(
     let mut sent: usize = 0;
     while from < chunk.len() {
         let fed = feed(
-            chunk, from, line, total, hold, n, letters, sections, heads, parts, masses, scores,
-            bytes, numbers, out,
+            chunk, from, line, total, hold, n, sheet, bytes, numbers, out,
         );
         let next = fed.next;
         let put = fed.put;
@@ -298,22 +292,15 @@ fn close<W: Write, C: Clock>(
     refused: u64,
     hold: &[u8],
     held: usize,
-    letters: &mut [u8],
-    sections: &mut [u8],
-    heads: &mut [u16],
-    parts: &mut [u16],
-    masses: &mut [i64],
-    scores: &mut [i64],
+    sheet: &mut Sheet,
     bytes: &mut [u8],
     numbers: &mut [i64],
     out: &mut [u8],
 ) -> Kept
-    requires { Ready hold.now held (sheet_of letters.old sections.old heads.old parts.old masses.old scores.old) bytes.old numbers.old out.old × (refused < number) }
+    requires { Ready hold.now held bytes.old numbers.old out.old × (refused < number) }
     ensures { ClosesAt number refused hold.now held result.number result.refused result.sent result.more result.end }
 {
-    let last = finish(
-        number, hold, held, letters, sections, heads, parts, masses, scores, bytes, numbers, out,
-    );
+    let last = finish(number, hold, held, sheet, bytes, numbers, out);
     let put = last.next;
     let taken = hand_last(clock, output, number, hold, held, out, put);
     if taken < put {
@@ -347,23 +334,17 @@ fn take_in<W: Write, C: Clock>(
     refused: u64,
     hold: &mut [u8],
     held: usize,
-    letters: &mut [u8],
-    sections: &mut [u8],
-    heads: &mut [u16],
-    parts: &mut [u16],
-    masses: &mut [i64],
-    scores: &mut [i64],
+    sheet: &mut Sheet,
     bytes: &mut [u8],
     numbers: &mut [i64],
     out: &mut [u8],
 ) -> Kept
-    requires { (n ≤ length room.now) × (length room.now ≤ read_limit) × (number + read_limit + output_limit ≤ number_limit) × Ready hold.old held (sheet_of letters.old sections.old heads.old parts.old masses.old scores.old) bytes.old numbers.old out.old × (refused < number) }
-    ensures { Turns room.now number refused hold.old held result.number result.refused hold.new result.held (sheet_of letters.new sections.new heads.new parts.new masses.new scores.new) bytes.new numbers.new out.new result.sent result.more result.end }
+    requires { (n ≤ length room.now) × (length room.now ≤ read_limit) × (number + read_limit + output_limit ≤ number_limit) × Ready hold.old held bytes.old numbers.old out.old × (refused < number) }
+    ensures { Turns room.now number refused hold.old held result.number result.refused hold.new result.held bytes.new numbers.new out.new result.sent result.more result.end }
 {
     if n == 0 {
         return close(
-            clock, output, number, refused, hold, held, letters, sections, heads, parts, masses,
-            scores, bytes, numbers, out,
+            clock, output, number, refused, hold, held, sheet, bytes, numbers, out,
         );
     }
     drain(
@@ -374,12 +355,7 @@ fn take_in<W: Write, C: Clock>(
         refused,
         hold,
         held,
-        letters,
-        sections,
-        heads,
-        parts,
-        masses,
-        scores,
+        sheet,
         bytes,
         numbers,
         out,
@@ -396,24 +372,18 @@ fn turn<R: Read, W: Write, C: Clock>(
     refused: u64,
     hold: &mut [u8],
     held: usize,
-    letters: &mut [u8],
-    sections: &mut [u8],
-    heads: &mut [u16],
-    parts: &mut [u16],
-    masses: &mut [i64],
-    scores: &mut [i64],
+    sheet: &mut Sheet,
     bytes: &mut [u8],
     numbers: &mut [i64],
     out: &mut [u8],
 ) -> Kept
-    requires { (length room.old ≤ read_limit) × (number + read_limit + output_limit ≤ number_limit) × Ready hold.old held (sheet_of letters.old sections.old heads.old parts.old masses.old scores.old) bytes.old numbers.old out.old × (refused < number) }
-    ensures { Turns room.new number refused hold.old held result.number result.refused hold.new result.held (sheet_of letters.new sections.new heads.new parts.new masses.new scores.new) bytes.new numbers.new out.new result.sent result.more result.end }
+    requires { (length room.old ≤ read_limit) × (number + read_limit + output_limit ≤ number_limit) × Ready hold.old held bytes.old numbers.old out.old × (refused < number) }
+    ensures { Turns room.new number refused hold.old held result.number result.refused hold.new result.held bytes.new numbers.new out.new result.sent result.more result.end }
 {
     let got = receive(clock, input, room);
     match got {
         Got::Came(n) => take_in(
-            clock, output, room, n, number, refused, hold, held, letters, sections, heads, parts,
-            masses, scores, bytes, numbers, out,
+            clock, output, room, n, number, refused, hold, held, sheet, bytes, numbers, out,
         ),
         Got::Failed => Kept {
             number,
@@ -433,17 +403,12 @@ fn serve<R: Read, W: Write, C: Clock>(
     output: &mut W,
     room: &mut [u8],
     hold: &mut [u8],
-    letters: &mut [u8],
-    sections: &mut [u8],
-    heads: &mut [u16],
-    parts: &mut [u16],
-    masses: &mut [i64],
-    scores: &mut [i64],
+    sheet: &mut Sheet,
     bytes: &mut [u8],
     numbers: &mut [i64],
     out: &mut [u8],
 ) -> Kept
-    requires { (length room.old ≤ read_limit) × Ready hold.old 0 (sheet_of letters.old sections.old heads.old parts.old masses.old scores.old) bytes.old numbers.old out.old }
+    requires { (length room.old ≤ read_limit) × Ready hold.old 0 bytes.old numbers.old out.old }
     ensures { 1 ≤ result.number }
 {
     let mut number: u64 = 1;
@@ -452,8 +417,7 @@ fn serve<R: Read, W: Write, C: Clock>(
     let mut turns: u64 = TURNS;
     while turns > 0 {
         let kept = turn(
-            clock, input, output, room, number, refused, hold, held, letters, sections, heads,
-            parts, masses, scores, bytes, numbers, out,
+            clock, input, output, room, number, refused, hold, held, sheet, bytes, numbers, out,
         );
         if !kept.more {
             return kept;
@@ -492,12 +456,7 @@ pub fn run<R: Read, W: Write, E: Write, C: Clock>(
 ) {
     let mut room = [0u8; READ];
     let mut hold = [0u8; HOLD];
-    let mut letters = [0u8; Tables::RESIDUES];
-    let mut sections = [0u8; Tables::RESIDUES];
-    let mut heads = [0u16; Sheet::HEADS];
-    let mut parts = [0u16; Sheet::PARTS];
-    let mut masses = [0i64; Sheet::MASSES];
-    let mut scores = [0i64; Tables::BRACKETS];
+    let mut sheet = Sheet::new();
     let mut bytes = [0u8; Tables::BYTES];
     let mut numbers = [0i64; Tables::NUMBERS];
     let mut out = [0u8; OUTPUT];
@@ -507,12 +466,7 @@ pub fn run<R: Read, W: Write, E: Write, C: Clock>(
         output,
         &mut room,
         &mut hold,
-        &mut letters,
-        &mut sections,
-        &mut heads,
-        &mut parts,
-        &mut masses,
-        &mut scores,
+        &mut sheet,
         &mut bytes,
         &mut numbers,
         &mut out,

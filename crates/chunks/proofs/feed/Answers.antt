@@ -2,7 +2,7 @@
 use native.Mathlib.Omega.{arith}
 use borrow.Author.Rules.{rules}
 use borrow.Author.Tests.{not-true, not-false}
-use Rattle.chunks.proofs.Room.{still_roomy, still_clean}
+use Rattle.chunks.proofs.Room.{still_clean}
 use Rattle.chunks.proofs.Putting.{feeds_held, feeds_lines}
 use Rattle.chunks.proofs.feed.Goals as goal
 
@@ -16,7 +16,7 @@ pub put_part-entered-requires : goal.put_part-entered-requires
 put_part-entered-requires c =
     let m = c.gather-cut.ensures in
     let w = c.requires.2 in
-    (omega arith, omega (arith, m.within, m.room), w.roomy, w.clean, omega (arith, w.wide))
+    (omega arith, omega (arith, m.within, m.room), w.clean, omega (arith, w.wide))
 
 pub put_lines-requires : goal.put_lines-requires
 put_lines-requires c =
@@ -26,15 +26,6 @@ put_lines-requires c =
     let w = b.2 in (
       n.inside,
       omega (arith, b.1, n.goes (not-false _ c.if-not-cut.false)),
-      still_roomy w.roomy
-          (record {
-            letters_long = search rules;
-            sections_long = search rules;
-            heads_long = search rules;
-            parts_long = search rules;
-            masses_long = search rules;
-            scores_long = search rules;
-          }),
       still_clean r w.clean,
       omega (arith, r.puts.near, r.out_long, w.wide),
       omega (arith, b.3, c.one_if.ensures.1),
@@ -44,12 +35,4 @@ pub returns : goal.returns
 returns c =
     feeds_lines c.requires.2 c.gather-cut.ensures (not-false _ c.if-not-cut.false) c.put_part-entered.ensures c.one_if.ensures
     c.put_lines.ensures.0
-    (record {
-      letters_long = search rules;
-      sections_long = search rules;
-      heads_long = search rules;
-      parts_long = search rules;
-      masses_long = search rules;
-      scores_long = search rules;
-    })
     c.put_lines.ensures.1

@@ -9,7 +9,7 @@ returns-then-held-eq0 c = ends_none _ _ _ _ c.if-held-eq0.true
 pub put_part-requires : goal.put_part-requires
 put_part-requires c =
     let w = c.requires in
-    (omega arith, omega (arith, w.within, w.room), w.roomy, w.clean, omega (arith, w.wide))
+    (omega arith, omega (arith, w.within, w.room), w.clean, omega (arith, w.wide))
 
 pub returns : goal.returns
-returns c = ends_line _ _ _ _ _ _ _ _ _ _ _ _ c.requires (omega (arith, c.if-held-eq0.false)) c.put_part.ensures
+returns c = ends_line _ _ _ _ _ _ _ _ _ _ _ c.requires (omega (arith, c.if-held-eq0.false)) c.put_part.ensures

@@ -7,7 +7,7 @@ use Rattle.chunks.proofs.put_lines.Goals as goal
 pub loop-out-init : goal.loop-out-init
 loop-out-init c =
     let p = c.requires in
-    goes_start _ _ _ _ _ _ _ _ _ p.0 p.2 p.3 p.4
+    goes_start _ _ _ _ _ _ _ _ p.0 p.2 p.3
 
 pub overflow_sub-out : goal.overflow_sub-out
 overflow_sub-out c = omega (arith, c.loop-out.invariant.fits, c.loop-out.invariant.out_long)
@@ -16,17 +16,17 @@ pub line_end-end-requires : goal.line_end-end-requires
 line_end-end-requires c = c.loop-out.invariant.inside
 
 pub returns-then-end-chunk : goal.returns-then-end-chunk
-returns-then-end-chunk c = goes_end _ _ _ _ _ _ _ _ _ c.loop-out.invariant
+returns-then-end-chunk c = goes_end _ _ _ _ _ _ _ _ c.loop-out.invariant
 
 pub put_part-entered-requires : goal.put_part-entered-requires
 put_part-entered-requires c =
     let w = c.loop-out.invariant in
-    (c.line_end-end.ensures.past, c.line_end-end.ensures.within, w.roomy, w.clean, omega (arith, c.loop-out-test.true, w.fits, w.out_long))
+    (c.line_end-end.ensures.past, c.line_end-end.ensures.within, w.clean, omega (arith, c.loop-out-test.true, w.fits, w.out_long))
 
 pub overflow_add-total : goal.overflow_add-total
 overflow_add-total c =
     let w = c.loop-out.invariant in
-    omega (arith, stays_few _ _ w.leaves c.requires.5, c.one_if-total.ensures.1, w.count, c.line_end-end.ensures.past, c.line_end-end.ensures.within, c.requires.1)
+    omega (arith, stays_few _ _ w.leaves c.requires.4, c.one_if-total.ensures.1, w.count, c.line_end-end.ensures.past, c.line_end-end.ensures.within, c.requires.1)
 
 pub loop-out-smaller : goal.loop-out-smaller
 loop-out-smaller c = omega (arith, c.line_end-end.ensures.past, c.line_end-end.ensures.within, c.if-end-chunk.false)
@@ -34,16 +34,8 @@ loop-out-smaller c = omega (arith, c.line_end-end.ensures.past, c.line_end-end.e
 pub loop-out-preserved : goal.loop-out-preserved
 loop-out-preserved c =
     let w = c.loop-out.invariant in
-    goes_line _ _ _ _ _ _ _ _ _ w c.line_end-end.ensures c.if-end-chunk.false c.put_part-entered.ensures c.one_if-total.ensures
-    (record {
-      letters_long = search rules;
-      sections_long = search rules;
-      heads_long = search rules;
-      parts_long = search rules;
-      masses_long = search rules;
-      scores_long = search rules;
-    })
+    goes_line _ _ _ _ _ _ _ _ w c.line_end-end.ensures c.if-end-chunk.false c.put_part-entered.ensures c.one_if-total.ensures
     (omega (arith, c.loop-out-test.true, w.fits, w.out_long))
 
 pub returns : goal.returns
-returns c = goes_end _ _ _ _ _ _ _ _ _ c.loop-out.invariant
+returns c = goes_end _ _ _ _ _ _ _ _ c.loop-out.invariant

@@ -11,7 +11,7 @@ use Rattle.entries.proofs.put_report.Goals as goal
 pub put_taken-next-requires : goal.put_taken-next-requires
 put_taken-next-requires c =
     let w = rw c.in-Holds.is at c.judge-judged.ensures in
-    (fills w.1 c.requires.1, floats_of c.args.line.now (is_accepted {l = w.0} w.1) w.2, omega arith)
+    (fills w.1 c.requires.0, floats_of c.args.line.now (is_accepted {l = w.0} w.1) w.2, omega arith)
 
 pub returns-in-Holds : goal.returns-in-Holds
 returns-in-Holds c =

@@ -1,15 +1,14 @@
 -- `stream::drain` meets its contract. The loop: the chunk is taken in up to `from`, and what is put out for that was taken. Assumes nothing.
 use Prim.Native.Nat.{◌-◌}
 use lib.ListN.{length}
-use Rattle.chunks.specs.Lent.{sheet_of}
 use Rattle.stream.proofs.Handing.{ChunkTaken}
 use Rattle.stream.proofs.drain.Given as goal
 
 abbrev pub invariant-loop-from : goal.invariant-loop-from
 invariant-loop-from g l =
     let i = l.initial in
-    ChunkTaken l.chunk l.number l.refused i.hold l.held (sheet_of i.letters i.sections i.heads i.parts i.masses i.scores) i.bytes i.numbers i.out l.from l.line l.total l.n l.sent l.hold
-    (sheet_of l.letters l.sections l.heads l.parts l.masses l.scores) l.bytes l.numbers l.out
+    ChunkTaken l.chunk l.number l.refused i.hold l.held i.bytes i.numbers i.out l.from l.line l.total l.n l.sent l.hold
+    l.bytes l.numbers l.out
 
 abbrev pub decreases-loop-from : goal.decreases-loop-from
 decreases-loop-from g l = length l.chunk - l.from

@@ -6,7 +6,7 @@ use Rattle.stream.proofs.Turning.{serves_start, serves_more}
 use Rattle.stream.proofs.serve.Goals as goal
 
 pub loop-turns-init : goal.loop-turns-init
-loop-turns-init g c = serves_start _ _ _ _ _ _ c.requires.0 (omega arith) c.requires.1
+loop-turns-init g c = serves_start _ _ _ _ _ c.requires.0 (omega arith) c.requires.1
 
 pub turn-kept-requires : goal.turn-kept-requires
 turn-kept-requires g c =
@@ -18,15 +18,7 @@ returns-then-not-kept g c = omega (arith, c.loop-turns.invariant.few, c.turn-kep
 
 pub loop-turns-preserved : goal.loop-turns-preserved
 loop-turns-preserved g c =
-    serves_more _ _ _ _ _ _ c.loop-turns.invariant c.loop-turns-test.true c.turn-kept.ensures (not-false _ c.if-not-kept.false) (search rules) (search rules)
-    (record {
-      letters_long = search rules;
-      sections_long = search rules;
-      heads_long = search rules;
-      parts_long = search rules;
-      masses_long = search rules;
-      scores_long = search rules;
-    })
+    serves_more _ _ _ _ _ c.loop-turns.invariant c.loop-turns-test.true c.turn-kept.ensures (not-false _ c.if-not-kept.false) (search rules) (search rules)
     (search rules) (search rules) (search rules)
 
 pub returns : goal.returns

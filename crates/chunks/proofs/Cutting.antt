@@ -101,12 +101,6 @@ passed_stride {chunk} {from} {i} w l e q =
       before = ap plain (part_join from i end chunk w.past (omega arith)) ∙ plain_join (part from i chunk) (part i end chunk) w.before (not-false _ (sym e ∙ q));
     }
 
-pub passed_found : (chunk : List ℕ) (from i : ℕ) → Passed chunk from i → get_or chunk i 0 ≡ line_end → LineEnd chunk from i
-passed_found chunk from i w e = record { past = w.past; within = w.within; before = w.before; there = λ l. e }
-
-pub passed_all : (chunk : List ℕ) (from i : ℕ) → Passed chunk from i → length chunk ≤ i → LineEnd chunk from i
-passed_all chunk from i w h = record { past = w.past; within = w.within; before = w.before; there = λ l. absurd (omega arith) }
-
 -- ---- bytes behind those held: as many as there is room for
 front : (h t rest : List ℕ) (n : ℕ) → n ≤ length t → take (length h + n) (h ++ (take n t ++ rest)) ≡ h ++ take n t
 front h t rest n k = take-append-add h (take n t ++ rest) n ∙ ap (λ z. h ++ z) (take_at (take n t) rest n (length-take-le n t k))

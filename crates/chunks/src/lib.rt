@@ -4,17 +4,15 @@
 // `feed` goes on from it by a part of a chunk, and `finish` ends the input; what they put is exactly what the definitions put out in that state for those bytes.
 #![tactic(auto)]
 
-ghost use Rattle.std.specs.Prelude.{◌≡◌, cond, not, ◌||◌, ◌+◌, ◌<◌, ◌≤◌, min, eqb, length, take};
+ghost use Rattle.std.specs.Prelude.{◌≡◌, cond, not, ◌+◌, ◌<◌, ◌≤◌, length, take};
 ghost use Rattle.scope.specs.Refusals.{outcome};
 ghost use Rattle.entries.specs.Entry.{entry, entry_limit, is_refused, Printed};
 ghost use Rattle.store.specs.Filled.{Clean};
-ghost use Rattle.chunks.specs.Lines.{line_end};
 ghost use Rattle.chunks.specs.Feeding.{hold_limit, last_put, last_refused, part, plain};
 ghost use Rattle.chunks.specs.Cuts.{stride_size, Passed, LineEnd, Keeps, Cuts};
 ghost use Rattle.chunks.specs.Lent.{number_limit, Ready};
 ghost use Rattle.chunks.specs.Puts.{Fronts, Runs, Feeds};
 
-use bounds::copy_bytes;
 use entries::{ENTRY, Entered, NEWLINE, put_entry};
 use scope::tables::Tables;
 use sheet::Sheet;
@@ -35,23 +33,14 @@ struct Cut {
     ended: bool,
 }
 
-// Is it so, or does this byte end a line?
-fn or_end(so: bool, b: u8) -> bool
-    ensures { result ≡ (so || eqb b line_end) }
-{
-    so | (b == NEWLINE)
-}
-
 // Does a line end in the stride from a place of the chunk on? All its bytes are looked at, many at a time.
 fn has_end(chunk: &[u8], at: usize) -> bool
     requires { at + stride_size ≤ length chunk.now }
     ensures { result ≡ not (plain (part at (at + stride_size) chunk.now)) }
 {
     let mut so = false;
-    let mut i: usize = 0;
-    while i < STRIDE {
-        so = or_end(so, chunk[at + i]);
-        i += 1;
+    for i in 0..STRIDE {
+        so |= chunk[at + i] == NEWLINE;
     }
     so
 }
@@ -62,10 +51,7 @@ fn skip_plain(chunk: &[u8], from: usize) -> usize
     ensures { Passed chunk.now from result }
 {
     let mut i = from;
-    while STRIDE <= chunk.len() - i {
-        if has_end(chunk, i) {
-            return i;
-        }
+    while STRIDE <= chunk.len() - i && !has_end(chunk, i) {
         i += STRIDE;
     }
     i
@@ -76,23 +62,12 @@ fn line_end(chunk: &[u8], from: usize) -> usize
     requires { from ≤ length chunk.now }
     ensures { LineEnd chunk.now from result }
 {
-    let mut i = skip_plain(chunk, from);
-    while i < chunk.len() {
+    for i in skip_plain(chunk, from)..chunk.len() {
         if chunk[i] == NEWLINE {
             return i;
         }
-        i += 1;
     }
-    i
-}
-
-fn least(a: usize, b: usize) -> usize
-    ensures { result ≡ min a b }
-{
-    if a < b {
-        return a;
-    }
-    b
+    chunk.len()
 }
 
 // The bytes of the chunk from a place up to another behind those held, as far as there is room; how many are held then.
@@ -100,8 +75,9 @@ fn keep(chunk: &[u8], from: usize, end: usize, hold: &mut [u8], held: usize) -> 
     requires { (from ≤ end) × (end ≤ length chunk.now) × (held ≤ hold_limit) × (length hold.old ≡ hold_limit) }
     ensures { Keeps chunk.now from end hold.old held hold.new result }
 {
-    let n = least(end - from, hold.len() - held);
-    copy_bytes(&chunk[from..end], n, &mut hold[held..]);
+    let text = &chunk[from..end];
+    let n = text.len().min(hold.len() - held);
+    hold[held..held + n].copy_from_slice(&text[..n]);
     held + n
 }
 
@@ -113,16 +89,17 @@ fn gather(chunk: &[u8], from: usize, hold: &mut [u8], held: usize) -> Cut
     let end = line_end(chunk, from);
     let n = keep(chunk, from, end, hold, held);
     if end < chunk.len() {
-        return Cut {
+        Cut {
             next: end + 1,
             held: n,
             ended: true,
-        };
-    }
-    Cut {
-        next: end,
-        held: n,
-        ended: false,
+        }
+    } else {
+        Cut {
+            next: end,
+            held: n,
+            ended: false,
+        }
     }
 }
 
@@ -159,10 +136,7 @@ fn put_part(
 pub fn one_if(so: bool) -> u64
     ensures { (result ≡ cond so 1 0) × (result ≤ 1) }
 {
-    if so {
-        return 1;
-    }
-    0
+    u64::from(so)
 }
 
 // The entries of the lines that lie whole in the chunk from a place on, while the output has room for one more.

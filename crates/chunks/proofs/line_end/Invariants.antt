@@ -1,11 +1,6 @@
 -- `chunks::line_end` meets its contract. The loop: no byte 10 stands before i. Assumes nothing.
-use Prim.Native.Nat.{◌-◌}
-use lib.ListN.{length}
 use Rattle.chunks.specs.Cuts.{Passed}
 use Rattle.chunks.proofs.line_end.Given as goal
 
 abbrev pub invariant-loop-i : goal.invariant-loop-i
 invariant-loop-i l = Passed l.chunk l.from l.i
-
-abbrev pub decreases-loop-i : goal.decreases-loop-i
-decreases-loop-i l = length l.chunk - l.i

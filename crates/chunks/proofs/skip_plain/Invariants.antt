@@ -1,6 +1,5 @@
 -- `chunks::skip_plain` meets its contract. The loop: no byte 10 stands before i. Assumes nothing.
-use Prim.Native.Nat.{◌-◌}
-use lib.ListN.{length}
+use Rattle.std.proofs.Common.{◌-◌, length}
 use Rattle.chunks.specs.Cuts.{Passed}
 use Rattle.chunks.proofs.skip_plain.Given as goal
 

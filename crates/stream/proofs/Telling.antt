@@ -40,9 +40,6 @@ counted_more {text} {i} {ends} {one} w l e =
       few = omega (arith, w.few, e.1);
     }
 
-pub counted_all : {text : List ℕ} {n i ends : ℕ} → i ≤ n → n ≤ i → EndsCounted text i ends → (ends ≡ line_ends (take n text)) × (ends ≤ n)
-counted_all {text} {n} {i} h k w = let e : i ≡ n = omega arith in (w.are ∙ ap (λ z. line_ends (take z text)) e, omega (arith, w.few))
-
 -- words, a number and the end of the line, one behind the other
 pub notice_fronts : (words : List ℕ) (number : ℕ) (out : List ℕ) {one two left : List ℕ} {a r : ℕ} → length words + notice_room ≤ length out
     → one ≡ take (length words) words ++ drop (length words) out → Puts decimal_most one (length words) (decimal number) two a → Puts 1 two a (line_end ∷ []) left r

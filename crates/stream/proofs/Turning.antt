@@ -16,13 +16,12 @@ use Rattle.chunks.specs.Lent.{number_limit, output_limit, Ready}
 use Rattle.chunks.proofs.Putting.{stays_few}
 use Rattle.stream.specs.declared.End.{End}
 use Rattle.stream.specs.declared.End.TheVariants.{Unread}
-use Rattle.stream.specs.declared.Got.{Got}
-use Rattle.stream.specs.declared.Got.TheVariants.{Came}
+use Rattle.std.specs.Prelude.{Option, Some}
 use Rattle.stream.specs.Turns.{read_limit, Received, Drains, ClosesAt, Turns}
 use Rattle.stream.proofs.Handing.{unread}
 
 -- ---- one read
-pub came_fits : {room room' n : ℕ} {g : Got} → g ≡ Came n → Received room g → room' ≡ room → n ≤ room'
+pub came_fits : {room room' n : ℕ} {g : Option ℕ} → g ≡ Some n → Received room g → room' ≡ room → n ≤ room'
 came_fits {room} {room'} {n} e r l = let h : n ≤ room = subst (Received room) e r in omega arith
 
 pub front_fits : (n : ℕ) (l : List ℕ) → length l ≤ read_limit → length (take n l) ≤ read_limit

@@ -1,26 +1,24 @@
 -- One read, and what comes of it: a whole chunk taken in, the end of the input, or a failure.
-use Rattle.std.specs.Prelude.{◌≡◌, Bool, true, false, List, Option, ℕ, ◌+◌, ◌<◌, ◌≤◌, ℤ, length, take}
+use Rattle.std.specs.Prelude.{◌≡◌, Bool, true, false, List, Option, Some, None, ℕ, ◌+◌, ◌<◌, ◌≤◌, ℤ, length, take}
 use Rattle.std.specs.Io.KnownBytes.{Consumes, IsAtEnd, Keeps}
 use Rattle.chunks.specs.Feeding.{holding, after, put, finished, refused_at_end}
 use Rattle.chunks.specs.Lent.{Ready}
 use Rattle.stream.specs.declared.End.{End}
 use Rattle.stream.specs.declared.End.TheVariants.{Whole}
-use Rattle.stream.specs.declared.Got.{Got}
-use Rattle.stream.specs.declared.Got.TheVariants.{Came, Failed}
 
 -- so many bytes are read at once, at most
 abbrev pub read_limit : ℕ
 read_limit = 8192
 
 -- a read brought so many bytes, or failed
-abbrev pub Received : ℕ → Got → Type 0
-Received room (Came n) = n ≤ room
-Received room Failed = Unit {0}
+abbrev pub Received : ℕ → Option ℕ → Type 0
+Received room (Some n) = n ≤ room
+Received room None = Unit {0}
 
 -- what a read brought was next in the input, where that is known, and where it brought nothing, the input is at its end; one that failed took nothing
-abbrev pub Brought : Option (List ℕ) → Option (List ℕ) → List ℕ → Got → Type 0
-Brought old new room (Came n) = Consumes old new (take n room) × (n ≡ 0 → 0 < length room → IsAtEnd new)
-Brought old new room Failed = Keeps old new
+abbrev pub Brought : Option (List ℕ) → Option (List ℕ) → List ℕ → Option ℕ → Type 0
+Brought old new room (Some n) = Consumes old new (take n room) × (n ≡ 0 → 0 < length room → IsAtEnd new)
+Brought old new room None = Keeps old new
 
 -- a whole chunk is taken in, and all that is put out for it was taken; unless a write failed
 pub record Drains (chunk : List ℕ) (number refused : ℕ) (hold : List ℕ) (held line total : ℕ) (holds : List ℕ) (n sent : ℕ) (more : Bool) (end : End) : Type 0 where

@@ -153,28 +153,22 @@ fn hand_last<W: Write, C: Clock>(
     send(clock, output, out, n)
 }
 
-// What a read brought: so many bytes at the front of the room, or nothing, as it failed.
-#[derive(Drop)]
-enum Got {
-    Came(usize),
-    Failed,
-}
-
-fn receive<R: Read, C: Clock>(clock: &C, input: &mut R, room: &mut [u8]) -> Got
+// What a read brought: so many bytes at the front of the room; none, where it failed.
+fn receive<R: Read, C: Clock>(clock: &C, input: &mut R, room: &mut [u8]) -> Option<usize>
     ensures fits { Received (length room.old) result }
     ensures brought { Brought (R.remaining input.old) (R.remaining input.new) room.new result }
 {
     for _ in 0..PATIENCE {
         match input.read(room) {
-            Ok(got) => return Got::Came(got),
+            Ok(got) => return Some(got),
             Err(error) => {
                 if !again(clock, &error) {
-                    return Got::Failed;
+                    return None;
                 }
             }
         }
     }
-    Got::Failed
+    None
 }
 
 // ---- a failure, told
@@ -184,11 +178,9 @@ fn lines_in(text: &[u8], n: usize) -> u64
     requires { n ≤ length text.now }
     ensures { (result ≡ line_ends (take n text.now)) × (result ≤ n) }
 {
-    let mut i: usize = 0;
     let mut ends: u64 = 0;
-    while i < n {
-        ends += one_if(text[i] == NEWLINE);
-        i += 1;
+    for &b in &text[..n] {
+        ends += one_if(b == NEWLINE);
     }
     ends
 }
@@ -382,10 +374,10 @@ fn turn<R: Read, W: Write, C: Clock>(
 {
     let got = receive(clock, input, room);
     match got {
-        Got::Came(n) => take_in(
+        Some(n) => take_in(
             clock, output, room, n, number, refused, hold, held, sheet, bytes, numbers, out,
         ),
-        Got::Failed => Kept {
+        None => Kept {
             number,
             refused,
             held,

@@ -9,10 +9,10 @@ use Rattle.stream.proofs.turn.Goals as goal
 pub take_in-requires : goal.take_in-requires
 take_in-requires g c =
     let same : length c.receive-got.new.room ≡ length c.args.room.now = search rules in
-    (came_fits c.in-Came.is c.receive-got.ensures.fits same, omega (arith, c.requires.0, same), c.requires.1, c.requires.2, c.requires.3)
+    (came_fits c.in-Some.is c.receive-got.ensures.fits same, omega (arith, c.requires.0, same), c.requires.1, c.requires.2, c.requires.3)
 
-pub returns-in-Came : goal.returns-in-Came
-returns-in-Came g c = c.take_in.ensures
+pub returns-in-Some : goal.returns-in-Some
+returns-in-Some g c = c.take_in.ensures
 
-pub returns-in-Failed : goal.returns-in-Failed
-returns-in-Failed g c = turns_failed
+pub returns-in-None : goal.returns-in-None
+returns-in-None g c = turns_failed

@@ -85,9 +85,3 @@ module _ (sort kind count : ℕ) where
       pub copies_placed : (y ≡ kind_code Unknown → ⊥) → (y ≡ kind_code OnRange → ⊥) → 0 ≡ copies_in sort kind count
       copies_placed l i =
           rw (ne_eqb sort labelled_sort (λ z. h (e ∙ z)), eq-eqb sort unlabelled_sort (omega arith), ne_eqb kind (kind_code Unknown) (λ z. l (f ∙ z)), ne_eqb kind (kind_code OnRange) (λ z. i (f ∙ z)))
-
-pub passed_before : (before after : ℕ) → copy_limit < before → false ≡ passes before after
-passed_before before after h = rw (lt-leb before copy_limit h)
-
-pub passed_here : (before after : ℕ) → before ≤ copy_limit → ltb copy_limit after ≡ passes before after
-passed_here before after h = rw (le-leb before copy_limit h)

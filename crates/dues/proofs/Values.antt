@@ -1,6 +1,6 @@
 -- What a value that was found says of its part, and so what is due of it. Assumes nothing.
 use mathlib.Core.Path.{◌≡◌, refl, sym, ap, ap₂, subst, ◌∙◌}
-use mathlib.Core.Bool.{Bool, true, false, not, cond, ◌&&◌, ◌||◌, and-false, or-false}
+use mathlib.Core.Bool.{Bool, true, false, not, ◌&&◌, ◌||◌, and-false, or-false}
 use mathlib.Core.Option.{Option, none, some}
 use mathlib.Core.List.{List, [], ◌++◌, map, append-nil}
 use Prim.Native.Nat.{ℕ, ◌+◌, ◌-◌, ◌<◌, ◌≤◌, min}
@@ -15,7 +15,7 @@ use Rattle.scope.specs.Bytes.{is_digit, same_folded}
 use Rattle.scope.specs.Glycans.{cuttings, cuttings_up_to}
 use Rattle.scope.specs.Keys.{key_code, written}
 use Rattle.scope.specs.Limits.{text_limit}
-use Rattle.std.specs.Prelude.{Option as Perhaps, Some, None}
+use Rattle.std.specs.Prelude.{Option as Perhaps, None}
 use Rattle.scope.specs.Line.{Value as Written, mass, text, reference, composition, Part}
 use Rattle.scope.specs.Lists.{part, none?, all}
 use Rattle.scope.specs.Refusals.{due_at, least, text_in, text_of, is_rule_name, too_deep, in_range, wide_mass}

@@ -1,18 +1,16 @@
 -- What a label that was found says, and so what is due of it. Assumes nothing.
 use mathlib.Core.Path.{◌≡◌, refl, sym, ap, ap₂, ◌∙◌}
-use mathlib.Core.Bool.{Bool, true, false, cond, not}
+use mathlib.Core.Bool.{Bool}
 use mathlib.Core.Option.{Option, none, some}
 use mathlib.Core.List.{List, [], map, ◌++◌}
-use Prim.Native.Nat.{ℕ, ◌+◌, ◌-◌, ◌≤◌}
+use Prim.Native.Nat.{ℕ, ◌+◌, ◌-◌}
 use native.Mathlib.Omega.{arith}
-use lib.Dec.{eqb, ltb}
+use lib.Dec.{ltb}
 use lib.ListN.{length}
-use borrow.Author.Tests.{ne_eqb, leb-true}
-use Rattle.scope.specs.Limits.{label_limit, decimal_limit}
+use Rattle.scope.specs.Limits.{label_limit}
 use Rattle.scope.specs.Line.{Number, Label as Written}
 use Rattle.scope.specs.Lists.{given, part}
 use Rattle.scope.specs.Refusals.{due_at, in_range, wide, is_link}
-use Rattle.basics.specs.Tests.{and_left}
 use Rattle.labels.specs.declared.Label.{Label}
 use Rattle.labels.specs.Says.{ScoreAt, score_kept, IsLabel}
 use Rattle.dues.specs.Found.{wide_score}

@@ -41,6 +41,3 @@ digits_only line from to e h room q =
     let g : to - from ≤ length (drop from line) = omega (arith, length-drop from line) in
     rw (some_there (part from (to - from) line) n)
     (moved from (to - from) (span is_digit (drop from line)) to e k q ∙ all_run is_digit (to - from) (drop from line) g)
-
-pub no_digits : (line : List ℕ) (from to : ℕ) → from ≡ to → false ≡ (not (none? (part from (to - from) line)) && all is_digit (part from (to - from) line))
-no_digits line from to e = let z : to - from ≡ 0 = omega arith in rw z

@@ -14,7 +14,7 @@ use Rattle.scope.specs.declared.grammar.Key.TheVariants.{NoKey}
 use Rattle.scope.specs.declared.grammar.Kind.TheVariants.{Unknown}
 use Rattle.scope.specs.Limits.{bracket_limit, part_limit}
 use Rattle.scope.specs.Line.{Label, Part, Bracket, reference}
-use Rattle.scope.specs.Lists.{given, flat, part, same, among, tabled}
+use Rattle.scope.specs.Lists.{given, flat, same, among, tabled}
 use Rattle.scope.specs.Modifications.{name_of, names_of}
 use Rattle.basics.specs.Each.{Each}
 use Rattle.basics.specs.Lists.{flat_append, flat_one, same_length}

@@ -1,7 +1,7 @@
 -- Laws of comparing a label, of searching for it, and of finding the part that has it. Assumes nothing.
 use Prim.Native.Nat.{ℕ, zero, suc, ◌+◌, ◌-◌, ◌≤◌, ◌<◌}
 use mathlib.Core.Path.{◌≡◌, sym, ap, ◌∙◌}
-use mathlib.Core.Bool.{Bool, true, false, not, cond, ◌||◌}
+use mathlib.Core.Bool.{Bool, true, false, cond, ◌||◌}
 use mathlib.Core.List.{List}
 use native.Mathlib.Omega.{arith}
 use lib.Dec.{eqb}
@@ -10,8 +10,8 @@ use borrow.Author.Tests.{eq-eqb, ne_eqb}
 use Rattle.scope.specs.Lists.{same, among, part, tabled}
 use Rattle.basics.specs.Lists.{same_length, among_append}
 use Rattle.sheet.specs.Rows.{masses_room}
-use Rattle.sheet.specs.Fields.{sort_field, parts_field, labels_field, base_field, label_from_field, label_to_field}
-use Rattle.rules.specs.Told.{name_at, PartLegible, AllLegible, labelled_from, side_is, side_at, side_from, reference_sort}
+use Rattle.sheet.specs.Fields.{parts_field, labels_field, base_field, label_from_field, label_to_field}
+use Rattle.rules.specs.Told.{name_at, PartLegible, AllLegible, labelled_from, side_is, side_at, side_from}
 
 -- ---- two labels
 module _ (line parts : List ℕ) where

@@ -4,14 +4,13 @@ use mathlib.Core.Path.{◌≡◌, sym, ap, ◌∙◌}
 use mathlib.Core.Bool.{Bool, true, false, not}
 use mathlib.Core.List.{List}
 use native.Mathlib.Omega.{arith}
-use lib.Dec.{eqb, ltb}
+use lib.Dec.{eqb}
 use borrow.Author.Tests.{eq-eqb, ne_eqb, le-leb, lt-leb, lt-ltb, le-ltb}
 use Rattle.scope.specs.declared.grammar.Kind.TheVariants.{Unknown, Labile, OnRange, Declared}
 use Rattle.scope.specs.Kinds.{kind_code}
-use Rattle.scope.specs.Limits.{copy_limit}
 use Rattle.scope.specs.Lists.{among}
 use Rattle.sheet.specs.Fields.{kind_field, sort_field, counted_field, labels_field, written_count}
-use Rattle.rules.specs.Told.{info_sort, unlabelled_sort, labelled_sort, reference_sort, info_at, declared_info_at, name_at, side_from, wrong_label, wrong_at, labelled_at, copies_in, passes}
+use Rattle.rules.specs.Told.{info_sort, unlabelled_sort, labelled_sort, reference_sort, info_at, declared_info_at, name_at, side_from, wrong_label, wrong_at, labelled_at, copies_in}
 
 -- ---- 10
 module _ (heads : List ℕ) (k : ℕ) {x : ℕ} (e : x ≡ kind_field heads k) where
@@ -85,9 +84,3 @@ module _ (sort kind count : ℕ) where
       pub copies_placed : (y ≡ kind_code Unknown → ⊥) → (y ≡ kind_code OnRange → ⊥) → 0 ≡ copies_in sort kind count
       copies_placed l i =
           rw (ne_eqb sort labelled_sort (λ z. h (e ∙ z)), eq-eqb sort unlabelled_sort (omega arith), ne_eqb kind (kind_code Unknown) (λ z. l (f ∙ z)), ne_eqb kind (kind_code OnRange) (λ z. i (f ∙ z)))
-
-pub passed_before : (before after : ℕ) → copy_limit < before → false ≡ passes before after
-passed_before before after h = rw (lt-leb before copy_limit h)
-
-pub passed_here : (before after : ℕ) → before ≤ copy_limit → ltb copy_limit after ≡ passes before after
-passed_here before after h = rw (le-leb before copy_limit h)

@@ -1,4 +1,3 @@
-pub mod Stores
 pub mod RowLaws
 pub mod FieldLaws
 pub mod KeptLaws

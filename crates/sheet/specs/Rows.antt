@@ -4,7 +4,7 @@
 use Rattle.std.specs.Prelude.{◌≡◌, cond, List, [], ◌∷◌, ◌++◌, map, ℕ, ◌+◌, ◌*◌, ◌≤◌, min, ℤ, pos, length, take}
 use Rattle.std.proofs.Math.Option.{Option, none, some}
 use Rattle.scope.specs.Limits.{residue_limit, bracket_limit, part_limit, decimal_limit, count_limit}
-use Rattle.scope.specs.Line.{Number, Value, mass, text, reference, composition, Place, Part, Bracket, Residue, Line}
+use Rattle.scope.specs.Line.{Number, Value, mass, text, reference, composition, Place, Part, Bracket, Residue}
 use Rattle.scope.specs.Lists.{given, flat, part}
 use Rattle.scope.specs.Keys.{key_code, written}
 use Rattle.scope.specs.Kinds.{kind_code}
@@ -13,7 +13,6 @@ use Rattle.scope.specs.Refusals.{text_of, in_range}
 use Rattle.scope.specs.Tables.{millionths, score_of}
 use Rattle.scope.specs.Layout.{value_code, section_code}
 use Rattle.basics.specs.Each.{Each}
-use Rattle.reading_laws.proofs.Taken.{Taken}
 use Rattle.sites.specs.Says.{Stand}
 
 -- ---- a part

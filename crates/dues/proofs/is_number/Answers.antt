@@ -1,7 +1,6 @@
 -- `is_number` meets its contract: a run of digits from the text's first byte reaches its end. Assumes nothing.
-use mathlib.Core.Path.{sym, ◌∙◌}
 use native.Mathlib.Omega.{arith}
-use Rattle.dues.proofs.Numerals.{no_digits, digits_only}
+use Rattle.dues.proofs.Numerals.{digits_only}
 use Rattle.dues.proofs.is_number.Goals as goal
 
 pub returns-then-from-to : goal.returns-then-from-to

@@ -1,5 +1,5 @@
 -- `text_due` meets its contract: what is too deep, what is too long, and then by the key. Assumes nothing.
-use mathlib.Core.Path.{refl, ap}
+use mathlib.Core.Path.{ap}
 use native.Mathlib.Omega.{arith}
 use Rattle.scope.specs.Keys.{key_code}
 use Rattle.dues.proofs.Values.{TextFound, text_found, deep_fits, due_rule, due_number, due_none, due_uncut, due_barred, number_key, barred_name, other_key}

@@ -1,5 +1,4 @@
 use Rattle.rules.proofs.Searched.{among_starts, among_more, among_found, among_ends}
-use Prim.Native.Nat.{◌-◌}
 use native.Mathlib.Omega.{arith}
 use Rattle.rules.proofs.has_label.Goals as goal
 

@@ -1,5 +1,4 @@
 use Rattle.rules.proofs.Searched.{named_starts, named_more, named_found, named_ends, legible_fewer}
-use Prim.Native.Nat.{◌-◌}
 use native.Mathlib.Omega.{arith}
 use Rattle.rules.proofs.is_named.Goals as goal
 

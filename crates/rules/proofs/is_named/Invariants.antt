@@ -1,7 +1,6 @@
 -- `is_named` meets its contract: the loop's invariant is that the brackets passed do not name it. Assumes nothing.
 use Rattle.rules.proofs.Searched.{NotNamed}
 use Rattle.rules.specs.Told.{name_at}
-use Prim.Native.Nat.{◌-◌}
 use Rattle.rules.proofs.is_named.Given as goal
 
 abbrev pub invariant-loop-k : goal.invariant-loop-k

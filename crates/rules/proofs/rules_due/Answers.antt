@@ -2,7 +2,7 @@ use Rattle.rules.proofs.Whole.{finds}
 use Rattle.rules.proofs.Noting.{all_legible}
 use Rattle.rules.proofs.Gathered.{gather_starts, gather_more, gather_ends, copies_end}
 use mathlib.Core.Path.{ap}
-use Prim.Native.Nat.{◌+◌, ◌-◌}
+use Prim.Native.Nat.{◌+◌}
 use native.Mathlib.Omega.{arith}
 use Rattle.rules.proofs.rules_due.Goals as goal
 

@@ -1,7 +1,6 @@
 -- `rules_due` meets its contract: the loop's invariant is that what the brackets passed give, codes and copies, with those ahead is what all give.
 -- Assumes nothing.
 use Rattle.rules.proofs.Gathered.{Gathering}
-use Prim.Native.Nat.{◌-◌}
 use Rattle.rules.proofs.rules_due.Given as goal
 
 abbrev pub invariant-loop-k : goal.invariant-loop-k

@@ -6,14 +6,6 @@ use Rattle.export.proofs.printed.hwemiduk_entry.Goals as goal
 
 pub put_entry-e-requires : goal.put_entry-e-requires
 put_entry-e-requires c = (
-  record {
-    letters_room = search rules;
-    sections_room = search rules;
-    heads_room_is = search rules;
-    parts_room_is = search rules;
-    masses_room_is = search rules;
-    scores_room = search rules;
-  },
   record { bytes_room = search rules; bytes_zero = refl; numbers_room = search rules; numbers_zero = refl },
   search rules,
 )

@@ -15,7 +15,10 @@ use Rattle.scope.specs.Line.{Bracket, Line}
 use Rattle.scope.specs.Reading.{stuck, holds, reading}
 use Rattle.scope.specs.Refusals.{accepted, refused, line_refusals, outcome}
 use Rattle.scope.specs.Positions.{floaters}
-use Rattle.scope.specs.Answers.{good, refuses, says_outcome}
+use Rattle.std.specs.Prelude.{Result, Ok, Err}
+use Rattle.scope.specs.declared.refusals.Refusal.{Refusal}
+use Rattle.scope.specs.Answers.{Said, good, refuses, reason_number, says, says_outcome}
+use Rattle.verdict.specs.declared.Noted.{Noted}
 use Rattle.basics.specs.Each.{Each}
 use Rattle.accepted_laws.specs.Laws.{accepted_within}
 use Rattle.reading_laws.proofs.Compositions.{floaters_kept}
@@ -35,10 +38,8 @@ use Rattle.dues.specs.Few.{FewOf, few_of}
 use Rattle.rules.specs.Ruled.{Ruled, Finds}
 use Rattle.rules.specs.Shapes.{all_shaped}
 use Rattle.walk.specs.Walked.{LineSays}
-use Rattle.verdict.specs.declared.Judged.{Judged}
-use Rattle.verdict.specs.declared.Judged.TheVariants.{Refused, Holds}
 use Rattle.verdict.specs.Due.{unread, WalkedLine, first_code, FirstOf, by_code}
-use Rattle.verdict.specs.Says.{JudgedSays}
+use Rattle.verdict.specs.Says.{Holds, JudgedSays}
 use Rattle.verdict.proofs.Unprintable.{first_unprintable, no_unprintable, bytes}
 use Rattle.verdict.proofs.Trying.{is_unprintable, is_stuck, of_order}
 
@@ -97,19 +98,19 @@ module _ {line heads parts : List ℕ} {brackets least : ℕ} (w : WalkedLine li
         subst (λ l. FirstOf l c many) (same_line l e) (record { first_is = ruled_first g.first_is; floaters_are = λ none few. g.floaters_are few })
 
 -- ---- what a code says
-module _ (c residues brackets many : ℕ) (l : Line ℕ) where
+module _ (c : ℕ) (n : Noted) (l : Line ℕ) where
   pub code_refuses : {number place : ℕ} → c < no_code (line_refusals l) → number ≡ number_at (line_refusals l) (c / wide_limit) → place ≡ c % wide_limit
-      → Refused number place ≡ by_code l c residues brackets many
+      → refuses number place ≡ by_code l c n
   code_refuses h a d = rw (lt-ltb c (no_code (line_refusals l)) h, a, d)
 
-  pub code_holds : no_code (line_refusals l) ≤ c → Holds residues brackets many ≡ by_code l c residues brackets many
+  pub code_holds : no_code (line_refusals l) ≤ c → good n ≡ by_code l c n
   code_holds h = rw (le-ltb c (no_code (line_refusals l)) h)
 
 -- ---- where no line goes on
-pub unprintable_is : (line : List ℕ) (end place : ℕ) → end ≡ span is_printable line → end < length line → Refused 3 end ≡ unread line place
+pub unprintable_is : (line : List ℕ) (end place : ℕ) → end ≡ span is_printable line → end < length line → refuses 3 end ≡ unread line place
 unprintable_is line end place e h = rw (lt-ltb (span is_printable line) (length line) (subst (λ x. x < length line) e h), e)
 
-pub stuck_is : (line : List ℕ) (end place : ℕ) → end ≡ span is_printable line → length line ≤ end → Refused 4 place ≡ unread line place
+pub stuck_is : (line : List ℕ) (end place : ℕ) → end ≡ span is_printable line → length line ≤ end → refuses 4 place ≡ unread line place
 stuck_is line end place e h = rw (le-ltb (span is_printable line) (length line) (subst (λ x. length line ≤ x) e h))
 
 -- ---- a line that is accepted
@@ -127,15 +128,21 @@ as_many_float l = sym (ap length (floaters_kept l) ∙ length-map (floaters l) k
 -- ---- the answer
 module _ (line : List ℕ) (some_byte : length line ≡ 0 → ⊥) (short : length line ≤ line_limit)
     (sheet : Sheet) where
-  abbrev Says : Judged → Type 0
-  Says r = JudgedSays line r sheet
+  -- what is said of the line
+  abbrev SaidOf : Said Noted → Type 0
+  SaidOf (good n) = Holds line n sheet
+  SaidOf (refuses number place) = outcome line ≡ refused number place
 
-  pub stuck_says : (p : ℕ) (r : Judged) → reading line ≡ stuck p → r ≡ unread line p → Says r
-  stuck_says p r e q = subst Says (sym q) (go (ltb (span is_printable line) (length line)) refl)
+  judged : (r : Result Noted Refusal) {s : Said Noted} → says r ≡ s → SaidOf s → JudgedSays line r sheet
+  judged (Ok n) e h = subst SaidOf (sym e) h
+  judged (Err f) e h = subst SaidOf (sym e) h
+
+  pub stuck_says : (p : ℕ) (f : Refusal) → reading line ≡ stuck p → refuses (reason_number f.reason) f.place ≡ unread line p → JudgedSays line (Err f) sheet
+  stuck_says p f r q = judged (Err f) q (go (ltb (span is_printable line) (length line)) refl)
     where
-      go : (t : Bool) → ltb (span is_printable line) (length line) ≡ t → Says (cond t (Refused 3 (span is_printable line)) (Refused 4 p))
+      go : (t : Bool) → ltb (span is_printable line) (length line) ≡ t → SaidOf (cond t (refuses 3 (span is_printable line)) (refuses 4 p))
       go true u = is_unprintable line some_byte short (span is_printable line) (first_unprintable line (ltb-true _ _ u))
-      go false u = is_stuck line some_byte short p (no_unprintable line (ltb-false _ _ u)) e
+      go false u = is_stuck line some_byte short p (no_unprintable line (ltb-false _ _ u)) r
 
   module _ {residues brackets least : ℕ} (w : LineSays line residues brackets least sheet) where
     pub walked_line : WalkedLine line sheet.heads sheet.parts brackets least
@@ -152,10 +159,10 @@ module _ (line : List ℕ) (some_byte : length line ≡ 0 → ⊥) (short : leng
           noted = w.noted;
         }
 
-    pub line_says : (c many : ℕ) (r : Judged) → ((l : Line ℕ) → reading line ≡ holds l → FirstOf l c many)
-        → ((l : Line ℕ) → r ≡ by_code l c residues brackets many) → Says r
+    pub line_says : (c many : ℕ) (r : Result Noted Refusal) → ((l : Line ℕ) → reading line ≡ holds l → FirstOf l c many)
+        → ((l : Line ℕ) → says r ≡ by_code l c (record { residues = residues; brackets = brackets; floaters = many })) → JudgedSays line r sheet
     unfolding as_read
-    line_says c many r first answer = subst Says (sym (answer l)) (go (ltb c (no_code (line_refusals l))) refl decides)
+    line_says c many r first answer = judged r (answer l) (go (ltb c (no_code (line_refusals l))) refl decides)
       where
         l : Line ℕ
         l = w.held
@@ -168,7 +175,7 @@ module _ (line : List ℕ) (some_byte : length line ≡ 0 → ⊥) (short : leng
 
         go : (t : Bool) → ltb c (no_code (line_refusals l)) ≡ t
             → cond t (refused (number_at (line_refusals l) (c / wide_limit)) (c % wide_limit)) (accepted (kept l)) ≡ outcome line
-            → Says (cond t (Refused (number_at (line_refusals l) (c / wide_limit)) (c % wide_limit)) (Holds residues brackets many))
+            → SaidOf (cond t (refuses (number_at (line_refusals l) (c / wide_limit)) (c % wide_limit)) (good (record { residues = residues; brackets = brackets; floaters = many })))
         go true q e = sym e
         go false q e = (
           kept l,

@@ -2,6 +2,7 @@
 #![tactic(auto)]
 
 ghost use Rattle.std.specs.Prelude.{◌≡◌, ℕ};
+ghost use Rattle.scope.specs.Answers.{refuses, reason_number, says};
 ghost use Rattle.scope.specs.Bytes.{is_printable};
 ghost use Rattle.scope.specs.Line.{Line};
 ghost use Rattle.scope.specs.Reading.{holds, reading};
@@ -10,22 +11,16 @@ ghost use Rattle.verdict.specs.Due.{WalkedLine, FirstOf, by_code, unread};
 ghost use Rattle.verdict.specs.Says.{VerdictSays, JudgedSays};
 
 use rules::Found;
-use scope::answers::Read;
+use scope::refusals::{Reason, Refusal};
 use scope::tables::Tables;
 use sheet::Sheet;
 
-// The refusal of a line; or how many residues, brackets and floaters it has, where it is accepted.
-#[derive(Drop)]
-pub enum Judged {
-    Refused {
-        number: u8,
-        place: usize,
-    },
-    Holds {
-        residues: usize,
-        brackets: usize,
-        floaters: usize,
-    },
+// What an accepted line has: so many residues, brackets and floaters.
+#[derive(Clone, Copy, Debug, PartialEq, Eq)]
+pub struct Noted {
+    pub residues: usize,
+    pub brackets: usize,
+    pub floaters: usize,
 }
 
 // The place of the first byte outside 32 to 126; the line's length where there is none.
@@ -36,17 +31,21 @@ fn printable_end(line: &[u8]) -> usize
 }
 
 // Refusal 3; or 4, at the place where no line goes on.
-fn not_read(line: &[u8], place: usize) -> Judged
-    ensures { result ≡ unread line.now place }
+fn not_read(line: &[u8], place: usize) -> Refusal
+    ensures { refuses (reason_number result.reason) result.place ≡ unread line.now place }
 {
     let end = printable_end(line);
     if end < line.len() {
-        return Judged::Refused {
-            number: 3,
+        Refusal {
+            reason: Reason::OutsideByte,
             place: end,
-        };
+        }
+    } else {
+        Refusal {
+            reason: Reason::Order,
+            place,
+        }
     }
-    Judged::Refused { number: 4, place }
 }
 
 // The first refusal due of 5 to 12, 19 and 21, where `least` is the first of 5 to 9 and 19, and how many copies float where none is due: the rules are asked where none of 5 to 9 is.
@@ -63,66 +62,59 @@ fn first_due(line: &[u8], sheet: &Sheet, brackets: usize, least: usize) -> Found
     rules::rules_due(line, sheet, brackets, least)
 }
 
-// What the first refusal due says of a line with so many residues, brackets and floaters.
-fn by_code(c: usize, residues: usize, brackets: usize, floaters: usize) -> Judged
-    ensures { (l : Line ℕ) → result ≡ by_code l c residues brackets floaters }
+// What the first refusal due says of a line that has so much.
+fn by_code(c: usize, noted: Noted) -> Result<Noted, Refusal>
+    ensures { (l : Line ℕ) → says result ≡ by_code l c noted }
 {
     if c < dues::NONE {
-        return Judged::Refused {
-            number: dues::number_of(c),
+        Err(Refusal {
+            reason: dues::reason_of(c),
             place: dues::place_of(c),
-        };
-    }
-    Judged::Holds {
-        residues,
-        brackets,
-        floaters,
+        })
+    } else {
+        Ok(noted)
     }
 }
 
-// The refusal of a line; or that it is accepted, and what it holds in the tables. These have room for what is noted of any line, and may hold anything before.
-pub fn judge(line: &[u8], sheet: &mut Sheet) -> Judged
+// The refusal of a line; or that it is accepted, and what it holds in the sheet, which may hold anything before.
+pub fn judge(line: &[u8], sheet: &mut Sheet) -> Result<Noted, Refusal>
     ensures { JudgedSays line.now result sheet.new }
 {
-    let n = line.len();
-    if n == 0 {
-        return Judged::Refused {
-            number: 1,
+    if line.is_empty() {
+        return Err(Refusal {
+            reason: Reason::EmptyLine,
             place: 0,
-        };
+        });
     }
-    if Tables::LINE < n {
-        return Judged::Refused {
-            number: 2,
+    if Tables::LINE < line.len() {
+        return Err(Refusal {
+            reason: Reason::LongLine,
             place: Tables::LINE,
-        };
+        });
     }
     match walk::walk(line, sheet) {
-        Err(stuck) => not_read(line, stuck.at),
+        Err(stuck) => Err(not_read(line, stuck.at)),
         Ok(walked) => {
             let found = first_due(line, sheet, walked.brackets, walked.least);
             by_code(
                 found.first,
-                walked.residues,
-                walked.brackets,
-                found.floaters,
+                Noted {
+                    residues: walked.residues,
+                    brackets: walked.brackets,
+                    floaters: found.floaters,
+                },
             )
         }
     }
 }
 
 // Whether a line is accepted, or its refusal.
-pub fn verdict_on(line: &[u8]) -> Read
+pub fn verdict_on(line: &[u8]) -> Result<(), Refusal>
     ensures { VerdictSays line.now result }
 {
     let mut sheet = Sheet::new();
-    let judged = judge(line, &mut sheet);
-    match judged {
-        Judged::Refused { number, place } => Read::Refused { number, place },
-        Judged::Holds {
-            residues: _,
-            brackets: _,
-            floaters: _,
-        } => Read::Accepted,
+    match judge(line, &mut sheet) {
+        Ok(_) => Ok(()),
+        Err(refusal) => Err(refusal),
     }
 }

@@ -2,8 +2,8 @@
 use Rattle.verdict.proofs.Judging.{verdict_refused, verdict_accepted}
 use Rattle.verdict.proofs.verdict_on.Goals as goal
 
-pub returns-in-Refused : goal.returns-in-Refused
-returns-in-Refused c = verdict_refused _ (rw c.in-Refused.is at c.judge-judged.ensures)
+pub returns-in-Ok : goal.returns-in-Ok
+returns-in-Ok c = verdict_accepted _ (rw c.in-Ok.is at c.judge.ensures).1
 
-pub returns-in-Holds : goal.returns-in-Holds
-returns-in-Holds c = verdict_accepted _ (rw c.in-Holds.is at c.judge-judged.ensures).1
+pub returns-in-Err : goal.returns-in-Err
+returns-in-Err c = verdict_refused _ (rw c.in-Err.is at c.judge.ensures)

@@ -15,7 +15,7 @@ first_due-found-requires c =
 
 pub returns-in-Err : goal.returns-in-Err
 returns-in-Err c =
-    stuck_says _ c.if-n-eq0.false c.if-n-gt-LINE.false _ _ _ (rw c.in-Err.is at c.walk.ensures) c.not_read.ensures
+    stuck_says _ c.if-n-eq0.false c.if-n-gt-LINE.false c.args.sheet.now _ _ (rw c.in-Err.is at c.walk.ensures) c.not_read.ensures
 
 pub returns-in-Ok : goal.returns-in-Ok
 returns-in-Ok c =

@@ -1,13 +1,14 @@
 -- From what the walk and the rules find in a line to what is answered: the lowest code of all is the outcome.
-use mathlib.Core.Path.{◌≡◌, refl, sym, ap, ap₂, subst, ◌∙◌}
+use mathlib.Core.Path.{◌≡◌, refl, sym, ap, subst, ◌∙◌}
 use mathlib.Core.Bool.{Bool, true, false, cond}
 use mathlib.Core.List.{List}
-use Prim.Native.Nat.{ℕ, ◌<◌, ◌≤◌}
+use Prim.Native.Nat.{ℕ, ◌/◌, ◌%◌, ◌<◌, ◌≤◌}
 use native.Mathlib.Omega.{arith}
 use borrow.Author.Tests.{lt-ltb, le-ltb, ltb-true, ltb-false}
 use lib.Dec.{ltb}
+use lib.IntN.{ℤ}
 use lib.ListN.{length, length-map}
-use Rattle.scope.specs.Bytes.{is_printable}
+use Rattle.scope.specs.Bytes.{wide_limit, is_printable}
 use Rattle.scope.specs.Limits.{line_limit}
 use Rattle.scope.specs.Kept.{kept_bracket, kept}
 use Rattle.scope.specs.Line.{Bracket, Line}
@@ -16,9 +17,8 @@ use Rattle.scope.specs.Refusals.{accepted, refused, line_refusals, outcome}
 use Rattle.scope.specs.Positions.{floaters}
 use Rattle.std.specs.Prelude.{Result, Ok, Err}
 use Rattle.scope.specs.declared.refusals.Refusal.{Refusal}
-use Rattle.scope.specs.declared.refusals.Reason.TheVariants.{OutsideByte, Order}
-use Rattle.scope.specs.Answers.{good, reason_number, says_outcome}
-use Rattle.basics.specs.Choice.{pick_true, pick_false}
+use Rattle.scope.specs.Answers.{Said, good, refuses, reason_number, says, says_outcome}
+use Rattle.verdict.specs.declared.Noted.{Noted}
 use Rattle.basics.specs.Each.{Each}
 use Rattle.accepted_laws.specs.Laws.{accepted_within}
 use Rattle.reading_laws.proofs.Compositions.{floaters_kept}
@@ -28,7 +28,7 @@ use Rattle.reading_laws.proofs.Taken.{Taken, taken, taken_back}
 use Rattle.classes.specs.Runs.{span}
 use Rattle.sheet.specs.declared.Sheet.{Sheet}
 use Rattle.sheet.specs.Kept.{LineNoted}
-use Rattle.dues.specs.Ranks.{code, lowest, no_code, decoded}
+use Rattle.dues.specs.Ranks.{code, lowest, no_code, number_at, decoded}
 use Rattle.dues.specs.First.{Fits}
 use Rattle.dues.specs.Lines.{info_rank, met_codes, ruled_codes}
 use Rattle.dues.specs.Steps.{lowest_after}
@@ -38,9 +38,8 @@ use Rattle.dues.specs.Few.{FewOf, few_of}
 use Rattle.rules.specs.Ruled.{Ruled, Finds}
 use Rattle.rules.specs.Shapes.{all_shaped}
 use Rattle.walk.specs.Walked.{LineSays}
-use Rattle.verdict.specs.declared.Noted.{Noted}
-use Rattle.verdict.specs.Due.{unread, WalkedLine, first_code, FirstOf, CodeSays}
-use Rattle.verdict.specs.Says.{JudgedSays}
+use Rattle.verdict.specs.Due.{unread, WalkedLine, first_code, FirstOf, by_code}
+use Rattle.verdict.specs.Says.{Holds, JudgedSays}
 use Rattle.verdict.proofs.Unprintable.{first_unprintable, no_unprintable, bytes}
 use Rattle.verdict.proofs.Trying.{is_unprintable, is_stuck, of_order}
 
@@ -98,6 +97,22 @@ module _ {line heads parts : List ℕ} {brackets least : ℕ} (w : WalkedLine li
         let g = f w.held.brackets all_noted in
         subst (λ l. FirstOf l c many) (same_line l e) (record { first_is = ruled_first g.first_is; floaters_are = λ none few. g.floaters_are few })
 
+-- ---- what a code says
+module _ (c : ℕ) (n : Noted) (l : Line ℕ) where
+  pub code_refuses : {number place : ℕ} → c < no_code (line_refusals l) → number ≡ number_at (line_refusals l) (c / wide_limit) → place ≡ c % wide_limit
+      → refuses number place ≡ by_code l c n
+  code_refuses h a d = rw (lt-ltb c (no_code (line_refusals l)) h, a, d)
+
+  pub code_holds : no_code (line_refusals l) ≤ c → good n ≡ by_code l c n
+  code_holds h = rw (le-ltb c (no_code (line_refusals l)) h)
+
+-- ---- where no line goes on
+pub unprintable_is : (line : List ℕ) (end place : ℕ) → end ≡ span is_printable line → end < length line → refuses 3 end ≡ unread line place
+unprintable_is line end place e h = rw (lt-ltb (span is_printable line) (length line) (subst (λ x. x < length line) e h), e)
+
+pub stuck_is : (line : List ℕ) (end place : ℕ) → end ≡ span is_printable line → length line ≤ end → refuses 4 place ≡ unread line place
+stuck_is line end place e h = rw (le-ltb (span is_printable line) (length line) (subst (λ x. length line ≤ x) e h))
+
 -- ---- a line that is accepted
 -- with the line as it was read
 as_read : (line : List ℕ) (l : Line ℕ) → reading line ≡ holds l → outcome line ≡ accepted (kept l) → Taken line (kept l)
@@ -113,16 +128,21 @@ as_many_float l = sym (ap length (floaters_kept l) ∙ length-map (floaters l) k
 -- ---- the answer
 module _ (line : List ℕ) (some_byte : length line ≡ 0 → ⊥) (short : length line ≤ line_limit)
     (sheet : Sheet) where
-  pub stuck_says : (p : ℕ) (r : Refusal) → reading line ≡ stuck p → r ≡ unread line p → JudgedSays line (Err r) sheet
-  stuck_says p r e q = subst Says (sym q) (go (ltb (span is_printable line) (length line)) refl)
-    where
-      Says : Refusal → Type 0
-      Says x = outcome line ≡ refused (reason_number x.reason) x.place
+  -- what is said of the line
+  abbrev SaidOf : Said Noted → Type 0
+  SaidOf (good n) = Holds line n sheet
+  SaidOf (refuses number place) = outcome line ≡ refused number place
 
-      go : (t : Bool) → ltb (span is_printable line) (length line) ≡ t
-          → Says (cond t (record { reason = OutsideByte; place = span is_printable line }) (record { reason = Order; place = p }))
+  judged : (r : Result Noted Refusal) {s : Said Noted} → says r ≡ s → SaidOf s → JudgedSays line r sheet
+  judged (Ok n) e h = subst SaidOf (sym e) h
+  judged (Err f) e h = subst SaidOf (sym e) h
+
+  pub stuck_says : (p : ℕ) (f : Refusal) → reading line ≡ stuck p → refuses (reason_number f.reason) f.place ≡ unread line p → JudgedSays line (Err f) sheet
+  stuck_says p f r q = judged (Err f) q (go (ltb (span is_printable line) (length line)) refl)
+    where
+      go : (t : Bool) → ltb (span is_printable line) (length line) ≡ t → SaidOf (cond t (refuses 3 (span is_printable line)) (refuses 4 p))
       go true u = is_unprintable line some_byte short (span is_printable line) (first_unprintable line (ltb-true _ _ u))
-      go false u = is_stuck line some_byte short p (no_unprintable line (ltb-false _ _ u)) e
+      go false u = is_stuck line some_byte short p (no_unprintable line (ltb-false _ _ u)) r
 
   module _ {residues brackets least : ℕ} (w : LineSays line residues brackets least sheet) where
     pub walked_line : WalkedLine line sheet.heads sheet.parts brackets least
@@ -139,37 +159,41 @@ module _ (line : List ℕ) (some_byte : length line ≡ 0 → ⊥) (short : leng
           noted = w.noted;
         }
 
-    abbrev l : Line ℕ
-    l = w.held
-
-    decides : {c many : ℕ} → ((l : Line ℕ) → reading line ≡ holds l → FirstOf l c many) → outcome line ≡ decoded (line_refusals l) c (accepted (kept l))
-    decides {c} first =
-        of_order line some_byte short l w.is
-        ∙ sym (by_codes l (places_fit line l w.is short))
-        ∙ ap (λ k. decoded (line_refusals l) k (accepted (kept l))) (sym (first l w.is).first_is)
-
     pub line_says : (c many : ℕ) (r : Result Noted Refusal) → ((l : Line ℕ) → reading line ≡ holds l → FirstOf l c many)
-        → ((l : Line ℕ) → CodeSays l c residues brackets many r) → JudgedSays line r sheet
+        → ((l : Line ℕ) → says r ≡ by_code l c (record { residues = residues; brackets = brackets; floaters = many })) → JudgedSays line r sheet
     unfolding as_read
-    line_says c many (Err e) first answer =
-        let a = answer l in
-        decides first ∙ pick_true (ltb c (no_code (line_refusals l))) _ _ (lt-ltb c (no_code (line_refusals l)) a.0) ∙ ap₂ refused (sym a.1) (sym a.2)
-    line_says c many (Ok found) first answer =
-        let a = answer l in
-        let e = decides first ∙ pick_false (ltb c (no_code (line_refusals l))) _ _ (le-ltb c (no_code (line_refusals l)) a.0) in (
+    line_says c many r first answer = judged r (answer l) (go (ltb c (no_code (line_refusals l))) refl decides)
+      where
+        l : Line ℕ
+        l = w.held
+
+        decides : decoded (line_refusals l) c (accepted (kept l)) ≡ outcome line
+        decides =
+            ap (λ k. decoded (line_refusals l) k (accepted (kept l))) (first l w.is).first_is
+            ∙ by_codes l (places_fit line l w.is short)
+            ∙ sym (of_order line some_byte short l w.is)
+
+        go : (t : Bool) → ltb c (no_code (line_refusals l)) ≡ t
+            → cond t (refused (number_at (line_refusals l) (c / wide_limit)) (c % wide_limit)) (accepted (kept l)) ≡ outcome line
+            → SaidOf (cond t (refuses (number_at (line_refusals l) (c / wide_limit)) (c % wide_limit)) (good (record { residues = residues; brackets = brackets; floaters = many })))
+        go true q e = sym e
+        go false q e = (
           kept l,
           record {
-            taken = as_read line l w.is e;
+            taken = as_read line l w.is (sym e);
             parts_many = w.parts;
             noted = w.noted;
             lettered = w.lettered;
-            residues_are = a.1 ∙ w.residues_are;
-            brackets_are = a.2 ∙ w.brackets_are;
+            residues_are = w.residues_are;
+            brackets_are = w.brackets_are;
           },
-          a.3 ∙ (first l w.is).floaters_are a.0 (omega (arith, as_many_float l, (accepted_within line (kept l) e).few_copies)) ∙ as_many_float l,
+          (first l w.is).floaters_are (ltb-false _ _ q) (omega (arith, as_many_float l, (accepted_within line (kept l) (sym e)).few_copies)) ∙ as_many_float l,
         )
 
 -- ---- the verdict
+pub verdict_refused : (line : List ℕ) {number place : ℕ} → outcome line ≡ refused number place → refuses number place ≡ says_outcome (outcome line)
+verdict_refused line e = ap says_outcome (sym e)
+
 pub verdict_accepted : (line : List ℕ) {sheet : Sheet} {residues brackets : ℕ} {l : Line ℕ}
     → LineNoted line sheet residues brackets l → good tt ≡ says_outcome (outcome line)
 verdict_accepted line {l = l} w = ap says_outcome (sym (taken_back line l w.taken))

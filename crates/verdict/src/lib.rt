@@ -2,11 +2,12 @@
 #![tactic(auto)]
 
 ghost use Rattle.std.specs.Prelude.{◌≡◌, ℕ};
+ghost use Rattle.scope.specs.Answers.{refuses, reason_number, says};
 ghost use Rattle.scope.specs.Bytes.{is_printable};
 ghost use Rattle.scope.specs.Line.{Line};
 ghost use Rattle.scope.specs.Reading.{holds, reading};
 ghost use Rattle.classes.specs.Runs.{span};
-ghost use Rattle.verdict.specs.Due.{WalkedLine, FirstOf, CodeSays, unread};
+ghost use Rattle.verdict.specs.Due.{WalkedLine, FirstOf, by_code, unread};
 ghost use Rattle.verdict.specs.Says.{VerdictSays, JudgedSays};
 
 use rules::Found;
@@ -14,7 +15,7 @@ use scope::refusals::{Reason, Refusal};
 use scope::tables::Tables;
 use sheet::Sheet;
 
-// How many residues, brackets and floaters an accepted line has.
+// What an accepted line has: so many residues, brackets and floaters.
 #[derive(Clone, Copy, Debug, PartialEq, Eq)]
 pub struct Noted {
     pub residues: usize,
@@ -31,7 +32,7 @@ fn printable_end(line: &[u8]) -> usize
 
 // Refusal 3; or 4, at the place where no line goes on.
 fn not_read(line: &[u8], place: usize) -> Refusal
-    ensures { result ≡ unread line.now place }
+    ensures { refuses (reason_number result.reason) result.place ≡ unread line.now place }
 {
     let end = printable_end(line);
     if end < line.len() {
@@ -53,18 +54,17 @@ fn first_due(line: &[u8], sheet: &Sheet, brackets: usize, least: usize) -> Found
     ensures { (l : Line ℕ) → reading line.now ≡ holds l → FirstOf l result.first result.floaters }
 {
     if least < dues::RULED {
-        Found {
+        return Found {
             first: least,
             floaters: 0,
-        }
-    } else {
-        rules::rules_due(line, sheet, brackets, least)
+        };
     }
+    rules::rules_due(line, sheet, brackets, least)
 }
 
-// What the first refusal due says of a line with so many residues, brackets and floaters.
-fn by_code(c: usize, residues: usize, brackets: usize, floaters: usize) -> Result<Noted, Refusal>
-    ensures { (l : Line ℕ) → CodeSays l c residues brackets floaters result }
+// What the first refusal due says of a line that has so much.
+fn by_code(c: usize, noted: Noted) -> Result<Noted, Refusal>
+    ensures { (l : Line ℕ) → says result ≡ by_code l c noted }
 {
     if c < dues::NONE {
         Err(Refusal {
@@ -72,26 +72,21 @@ fn by_code(c: usize, residues: usize, brackets: usize, floaters: usize) -> Resul
             place: dues::place_of(c),
         })
     } else {
-        Ok(Noted {
-            residues,
-            brackets,
-            floaters,
-        })
+        Ok(noted)
     }
 }
 
-// The refusal of a line; or that it is accepted, and what it holds in the tables. These have room for what is noted of any line, and may hold anything before.
+// The refusal of a line; or that it is accepted, and what it holds in the sheet, which may hold anything before.
 pub fn judge(line: &[u8], sheet: &mut Sheet) -> Result<Noted, Refusal>
     ensures { JudgedSays line.now result sheet.new }
 {
-    let n = line.len();
-    if n == 0 {
+    if line.is_empty() {
         return Err(Refusal {
             reason: Reason::EmptyLine,
             place: 0,
         });
     }
-    if Tables::LINE < n {
+    if Tables::LINE < line.len() {
         return Err(Refusal {
             reason: Reason::LongLine,
             place: Tables::LINE,
@@ -103,9 +98,11 @@ pub fn judge(line: &[u8], sheet: &mut Sheet) -> Result<Noted, Refusal>
             let found = first_due(line, sheet, walked.brackets, walked.least);
             by_code(
                 found.first,
-                walked.residues,
-                walked.brackets,
-                found.floaters,
+                Noted {
+                    residues: walked.residues,
+                    brackets: walked.brackets,
+                    floaters: found.floaters,
+                },
             )
         }
     }
@@ -116,6 +113,8 @@ pub fn verdict_on(line: &[u8]) -> Result<(), Refusal>
     ensures { VerdictSays line.now result }
 {
     let mut sheet = Sheet::new();
-    judge(line, &mut sheet)?;
-    Ok(())
+    match judge(line, &mut sheet) {
+        Ok(_) => Ok(()),
+        Err(refusal) => Err(refusal),
+    }
 }

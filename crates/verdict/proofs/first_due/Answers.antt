@@ -8,5 +8,5 @@ returns-then-least-lt-RULED c = met_is_first c.requires c.if-least-lt-RULED.true
 pub rules_due-requires : goal.rules_due-requires
 rules_due-requires c = (_, all_noted c.requires c.if-least-lt-RULED.false)
 
-pub returns-else-least-lt-RULED : goal.returns-else-least-lt-RULED
-returns-else-least-lt-RULED c = ruled_is_first c.requires c.if-least-lt-RULED.false c.rules_due.ensures
+pub returns : goal.returns
+returns c = ruled_is_first c.requires c.if-least-lt-RULED.false c.rules_due.ensures

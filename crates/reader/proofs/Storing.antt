@@ -1,10 +1,10 @@
 -- Cleared areas, filled with an accepted line's tables.
-use mathlib.Core.Path.{◌≡◌, ap, ◌∙◌}
-use mathlib.Core.List.{List, ◌++◌}
+use mathlib.Core.Path.{◌≡◌, sym, ap, ◌∙◌}
+use mathlib.Core.List.{List, ◌++◌, append-nil}
 use Prim.Native.Nat.{ℕ, ◌≤◌}
 use native.Mathlib.Omega.{arith}
 use lib.IntN.{ℤ, pos}
-use lib.ListN.{length, take, drop, replicate, length-append, length-replicate}
+use lib.ListN.{length, take, drop, replicate, length-append, length-replicate, drop_of_length-le}
 use lib.Seq.{take_at, drop_at}
 use Rattle.scope.specs.Line.{Line}
 use Rattle.scope.specs.Refusals.{accepted, outcome}
@@ -16,7 +16,7 @@ use Rattle.accepted_laws.specs.Laws.{accepted_within}
 use Rattle.sheet.specs.declared.Sheet.{Sheet}
 use Rattle.sheet.specs.Kept.{LineNoted}
 use Rattle.store.specs.Filled.{Clean, Fills, FilledAll}
-use Rattle.reader.specs.ReadSays.{Stores, Stored}
+use Rattle.reader.specs.ReadSays.{Stored}
 
 -- the first n elements cleared
 abbrev cleared : {A : Type 0} → A → ℕ → List A → List A
@@ -52,17 +52,29 @@ pub filled : {line bs : List ℕ} {ns : List ℤ} {bs' : List ℕ} {ns' : List �
     → Stored line bs ns bs' ns'
 filled f = record { bytes_now = λ l e. (f l e).bytes_are; numbers_now = λ l e. (f l e).numbers_are }
 
-module _ (bs : List ℕ) (ns : List ℤ) (bs₁ : List ℕ) (ns₁ : List ℤ) (b : bs₁ ≡ cleared 0 bytes_size bs) (n : ns₁ ≡ cleared (pos 0) numbers_size ns) where
-  pub fills_cleared : {line : List ℕ} {sheet : Sheet} {residues brackets : ℕ}
-      → Stores line sheet residues brackets bs ns
-      → Fills line sheet residues brackets bs₁ ns₁
-  fills_cleared w = fills w.line_noted (cleared_clean bs ns b n)
+-- an area of that size, all of it cleared
+cleared_all : {A : Type 0} (z : A) (n : ℕ) (l : List A) → length l ≡ n → replicate (length l) z ≡ cleared z n l
+cleared_all z n l e =
+    ap (λ i. replicate i z) e ∙ sym (ap (λ x. replicate n z ++ x) (drop_of_length-le l {i = n} (omega arith)) ∙ append-nil (replicate n z))
 
-  pub filled_cleared : (line bs' : List ℕ) (ns' : List ℤ) → ((l : Line ℕ) → outcome line ≡ accepted l → FilledAll bs₁ ns₁ bs' ns' l) → Stored line bs ns bs' ns'
-  filled_cleared line bs' ns' f =
+module _ (bs : List ℕ) (ns : List ℤ) {bs₁ : List ℕ} {ns₁ : List ℤ} (lb : length bs ≡ bytes_size) (ln : length ns ≡ numbers_size)
+    (b : bs₁ ≡ replicate (length bs) 0) (n : ns₁ ≡ replicate (length ns) (pos 0)) where
+  all_bytes : bs₁ ≡ cleared 0 bytes_size bs
+  all_bytes = b ∙ cleared_all 0 bytes_size bs lb
+
+  all_numbers : ns₁ ≡ cleared (pos 0) numbers_size ns
+  all_numbers = n ∙ cleared_all (pos 0) numbers_size ns ln
+
+  pub fills_cleared : {line : List ℕ} {sheet : Sheet} {residues brackets : ℕ}
+      → (l : Line ℕ) × LineNoted line sheet residues brackets l
+      → Fills line sheet residues brackets bs₁ ns₁
+  fills_cleared w = fills w.1 (cleared_clean bs ns all_bytes all_numbers)
+
+  pub filled_cleared : {line bs' : List ℕ} {ns' : List ℤ} → ((l : Line ℕ) → outcome line ≡ accepted l → FilledAll bs₁ ns₁ bs' ns' l) → Stored line bs ns bs' ns'
+  filled_cleared {line} f =
       record {
-        bytes_now = λ l e. (f l e).bytes_are ∙ ap (λ x. laid (bytes_of l) x) b ∙ laid_over 0 bytes_size (bytes_of l) bs (bytes_fill l (accepted_within line l e));
-        numbers_now = λ l e. (f l e).numbers_are ∙ ap (λ x. laid (numbers_of l) x) n ∙ laid_over (pos 0) numbers_size (numbers_of l) ns (numbers_fill l (accepted_within line l e));
+        bytes_now = λ l e. (f l e).bytes_are ∙ ap (λ x. laid (bytes_of l) x) all_bytes ∙ laid_over 0 bytes_size (bytes_of l) bs (bytes_fill l (accepted_within line l e));
+        numbers_now = λ l e. (f l e).numbers_are ∙ ap (λ x. laid (numbers_of l) x) all_numbers ∙ laid_over (pos 0) numbers_size (numbers_of l) ns (numbers_fill l (accepted_within line l e));
       }
 
 -- the areas hold what was stored

@@ -1,18 +1,16 @@
 -- What reading a line answers, and what it leaves in the lent areas: each an equation with the definitions of crate scope.
-use Rattle.std.specs.Prelude.{◌≡◌, List, ◌++◌, ℕ, ◌+◌, ◌≤◌, ℤ, pos, length, take, drop, replicate}
-use Rattle.scope.specs.declared.answers.Read.{Read}
+use Rattle.std.specs.Prelude.{◌≡◌, List, ◌++◌, ℕ, ◌+◌, ℤ, pos, length, take, drop, replicate, Result}
+use Rattle.scope.specs.declared.refusals.Refusal.{Refusal}
 use Rattle.scope.specs.Line.{Line}
 use Rattle.scope.specs.Refusals.{accepted, outcome}
 use Rattle.scope.specs.Layout.{bytes_size, numbers_size, bytes_of, numbers_of}
 use Rattle.scope.specs.Lists.{laid}
 use Rattle.layout_laws.proofs.Holds.{Holds}
-use Rattle.sheet.specs.declared.Sheet.{Sheet}
-use Rattle.sheet.specs.Kept.{LineNoted}
 use Rattle.store.specs.Filled.{Clean}
-use Rattle.scope.specs.Answers.{says_read, says_outcome, read_outcome, bytes_after, numbers_after}
+use Rattle.scope.specs.Answers.{says as told, says_outcome, read_outcome, bytes_after, numbers_after}
 
-pub record ReadSays (line bytes : List ℕ) (numbers : List ℤ) (r : Read) (bytes' : List ℕ) (numbers' : List ℤ) : Type 0 where
-  pub says : says_read r ≡ says_outcome (read_outcome bytes numbers line)
+pub record ReadSays (line bytes : List ℕ) (numbers : List ℤ) (r : Result (Unit {0}) Refusal) (bytes' : List ℕ) (numbers' : List ℤ) : Type 0 where
+  pub says : told r ≡ says_outcome (read_outcome bytes numbers line)
   pub bytes_after_is : bytes' ≡ bytes_after (read_outcome bytes numbers line) bytes
   pub numbers_after_is : numbers' ≡ numbers_after (read_outcome bytes numbers line) numbers
 
@@ -23,13 +21,7 @@ pub record HoldSome (n : ℕ) (bytes : List ℕ) (numbers : List ℤ) : Type 0 w
   pub held : Line ℕ
   pub holds : Holds bytes numbers text held
 
--- an accepted line that is noted in the sheet, and areas that have room
-pub record Stores (line : List ℕ) (sheet : Sheet) (residues brackets : ℕ) (bytes : List ℕ) (numbers : List ℤ) : Type 0 where
-  pub held : Line ℕ
-  pub line_noted : LineNoted line sheet residues brackets held
-  pub bytes_room : bytes_size ≤ length bytes
-  pub numbers_room : numbers_size ≤ length numbers
-
+-- areas into which the tables of an accepted line were put
 pub record Stored (line bytes : List ℕ) (numbers : List ℤ) (bytes' : List ℕ) (numbers' : List ℤ) : Type 0 where
   pub bytes_now : (l : Line ℕ) → outcome line ≡ accepted l → bytes' ≡ laid (bytes_of l) bytes
   pub numbers_now : (l : Line ℕ) → outcome line ≡ accepted l → numbers' ≡ laid (numbers_of l) numbers

@@ -1,24 +1,32 @@
 // Reading a line into the lent areas.
 #![tactic(auto)]
 
-ghost use Rattle.std.specs.Prelude.{◌≡◌, ◌+◌, ◌≤◌, length};
-ghost use Rattle.scope.specs.Layout.{bytes_size, numbers_size};
-ghost use Rattle.reader.specs.ReadSays.{ReadSays, HoldSome, Stores, Stored, Wiped, wiped};
+ghost use Rattle.std.specs.Prelude.{◌+◌, ◌≤◌, ◌≡◌, length, ℕ};
+ghost use Rattle.scope.specs.Line.{Line};
+ghost use Rattle.sheet.specs.Kept.{LineNoted};
+ghost use Rattle.reader.specs.ReadSays.{ReadSays, HoldSome, Stored, Wiped, wiped};
 
-use scope::answers::Read;
+use areas::{Bytes, Numbers};
+use scope::refusals::{Reason, Refusal};
 use scope::tables::Tables;
 use sheet::Sheet;
-use verdict::Judged;
 
-fn zero_from(bytes: &mut [u8], from: usize, n: usize)
+// A lent area that is shorter than its fixed size.
+const SHORT: Refusal = Refusal {
+    reason: Reason::ShortArea,
+    place: 0,
+};
+
+// n zeros from a place on.
+fn zero_from(bytes: &mut Bytes, from: usize, n: usize)
     requires { from + n ≤ length bytes.old }
     ensures { bytes.new ≡ wiped 0 from n bytes.old }
 {
-    store::zero_bytes(&mut bytes[from..], n);
+    bytes[from..from + n].fill(0);
 }
 
 // Areas that hold the tables of an accepted line of n bytes, clean again: only what such a line uses is written to.
-pub fn wipe(n: usize, bytes: &mut [u8], numbers: &mut [i64])
+pub fn wipe(n: usize, bytes: &mut Bytes, numbers: &mut Numbers)
     requires { HoldSome n bytes.old numbers.old }
     ensures { Wiped bytes.old numbers.old bytes.new numbers.new }
 {
@@ -28,7 +36,7 @@ pub fn wipe(n: usize, bytes: &mut [u8], numbers: &mut [i64])
     zero_from(bytes, Tables::SECTIONS, residues);
     zero_from(bytes, Tables::ROWS, brackets * Tables::ROW);
     zero_from(bytes, Tables::TEXTS, n);
-    store::zero_numbers(numbers, brackets * Tables::MASSES);
+    numbers[..brackets * Tables::MASSES].fill(0);
 }
 
 // An accepted line's tables, from the sheet into areas that held anything.
@@ -37,51 +45,36 @@ fn store_anew(
     sheet: &Sheet,
     residues: usize,
     brackets: usize,
-    bytes: &mut [u8],
-    numbers: &mut [i64],
+    bytes: &mut Bytes,
+    numbers: &mut Numbers,
 )
-    requires { Stores line.now sheet.now residues brackets bytes.old numbers.old }
+    requires { (l : Line ℕ) × LineNoted line.now sheet.now residues brackets l }
     ensures { Stored line.now bytes.old numbers.old bytes.new numbers.new }
 {
-    store::clear(bytes, numbers);
+    bytes.fill(0);
+    numbers.fill(0);
     store::store(line, sheet, residues, brackets, bytes, numbers);
 }
 
 // Any line of bytes, into areas that have room: the verdict, and where the line is accepted its tables, from what the walk has noted.
-fn read_roomy(line: &[u8], bytes: &mut [u8], numbers: &mut [i64]) -> Read
-    requires { (bytes_size ≤ length bytes.old) × (numbers_size ≤ length numbers.old) }
+fn read_roomy(line: &[u8], bytes: &mut Bytes, numbers: &mut Numbers) -> Result<(), Refusal>
     ensures { ReadSays line.now bytes.old numbers.old result bytes.new numbers.new }
 {
     let mut sheet = Sheet::new();
-    let judged = verdict::judge(line, &mut sheet);
-    match judged {
-        Judged::Refused { number, place } => Read::Refused { number, place },
-        Judged::Holds {
-            residues,
-            brackets,
-            floaters: _,
-        } => {
-            store_anew(line, &sheet, residues, brackets, bytes, numbers);
-            Read::Accepted
-        }
-    }
+    let noted = verdict::judge(line, &mut sheet)?;
+    store_anew(line, &sheet, noted.residues, noted.brackets, bytes, numbers);
+    Ok(())
 }
 
-// Any line of bytes, into any areas: accepted, with the line's tables in the areas; or refused with number and place, and nothing changed.
-pub fn read(line: &[u8], bytes: &mut [u8], numbers: &mut [i64]) -> Read
+// Any line of bytes, into any areas: accepted, with the line's tables in the areas; or refused, and nothing changed.
+pub fn read(line: &[u8], bytes: &mut [u8], numbers: &mut [i64]) -> Result<(), Refusal>
     ensures { ReadSays line.now bytes.old numbers.old result bytes.new numbers.new }
 {
-    if bytes.len() < Tables::BYTES {
-        return Read::Refused {
-            number: 13,
-            place: 0,
-        };
-    }
-    if numbers.len() < Tables::NUMBERS {
-        return Read::Refused {
-            number: 13,
-            place: 0,
-        };
-    }
+    let Some(bytes) = bytes.first_chunk_mut() else {
+        return Err(SHORT);
+    };
+    let Some(numbers) = numbers.first_chunk_mut() else {
+        return Err(SHORT);
+    };
     read_roomy(line, bytes, numbers)
 }

@@ -89,6 +89,6 @@ its_line bs ns {o} {left} {r} w h k y = (
 )
 
 -- whether there is a line says whether they are tables
-pub said_by_line : (bs : List ℕ) (ns : List ℤ) {line : List ℕ} (r : O.Option ℕ) → LineOf bs ns line r → is_some r ≡ are_tables bs ns
-said_by_line bs ns None w = sym w
-said_by_line bs ns (Some n) w = sym w.0
+pub said_by_line : (bs : List ℕ) (ns : List ℤ) (line : List ℕ) (r : O.Option ℕ) → LineOf bs ns line r → is_some r ≡ are_tables bs ns
+said_by_line bs ns line None w = sym w
+said_by_line bs ns line (Some n) w = sym w.0

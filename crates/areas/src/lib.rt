@@ -78,13 +78,6 @@ fn places_at(k: usize) -> usize
 
 // ---- reading
 
-// A byte as a number.
-pub fn wide(b: u8) -> usize
-    ensures { (result ≡ b) × (result < byte_limit) }
-{
-    usize::from(b)
-}
-
 fn byte(bytes: &Bytes, at: usize) -> usize
     requires { at < length bytes.now }
     ensures { (result ≡ byte_at bytes.now at) × (result < byte_limit) }

@@ -14,6 +14,7 @@ ghost use Rattle.blocks.specs.Entry.{position_bytes, placement_in, positions_of,
 ghost use Rattle.blocks.specs.Sizes.{content_most};
 ghost use Rattle.contents.specs.Says.{TableSays, ContentSays, Known};
 
+use areas::{Bytes, Numbers};
 use calls::is_allowed_by;
 use reader::read;
 use scope::answers::Placement;
@@ -49,7 +50,7 @@ fn put_placement(p: Placement, room: &mut [u8])
 // ---- the line
 
 // Is a line the canonical line of these tables?
-fn is_canonical(line: &[u8], bytes: &[u8], numbers: &[i64]) -> bool
+fn is_canonical(line: &[u8], bytes: &Bytes, numbers: &Numbers) -> bool
     requires { Known bytes.now numbers.now × (length line.now ≤ line_limit) }
     ensures { result ≡ same (canonical (tables_in bytes.now numbers.now)) line.now }
 {
@@ -82,8 +83,8 @@ pub fn is_stated(content: &[u8]) -> bool
 
 // Of a line's tables: the placement, where it is allowed, and the canonical line behind it; how many bytes of content that are, or 18.
 fn content_of(
-    bytes: &[u8],
-    numbers: &[i64],
+    bytes: &Bytes,
+    numbers: &Numbers,
     p: Placement,
     room: &mut [u8],
 ) -> Result<usize, Refusal>

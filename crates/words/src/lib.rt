@@ -4,7 +4,7 @@
 ghost use Rattle.std.specs.Prelude.{◌≡◌, true, cond, ◌-◌, ◌≤◌, eqb, length, take};
 ghost use Rattle.scope.specs.declared.grammar.Key.{Key as TheKey};
 ghost use Rattle.scope.specs.Bytes.{same_folded};
-ghost use Rattle.scope.specs.Keys.{spell, key_code, key_in};
+ghost use Rattle.scope.specs.Keys.{spell, key_in};
 ghost use Rattle.scope.specs.Lists.{part};
 ghost use Rattle.scope.specs.Refusals.{is_rule_name, is_link};
 ghost use Rattle.words.specs.Words.{may_be, key_found};
@@ -123,13 +123,6 @@ pub fn is_link(line: &[u8], at: usize, end: usize) -> bool
 {
     let text = &line[at..end];
     begins(b"XL", text) || is(b"BRANCH", text)
-}
-
-// The number of a key in the tables.
-pub fn key_code(key: Key) -> u8
-    ensures { result ≡ key_code key }
-{
-    key as u8
 }
 
 // The key of a number.

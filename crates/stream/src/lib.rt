@@ -20,7 +20,6 @@ ghost use Rattle.stream.specs.Told.{line_ends, notice_room, noticed};
 ghost use Rattle.stream.specs.Turns.{read_limit, Received, Brought, Drains, ClosesAt, Turns};
 
 use areas::{Bytes, Numbers};
-use bounds::copy_bytes;
 use chunks::{HOLD, OUTPUT, feed, finish, one_if};
 use entries::NEWLINE;
 use scope::tables::Tables;
@@ -191,7 +190,7 @@ fn notice(words: &[u8], number: u64, out: &mut [u8]) -> usize
     ensures { Fronts (noticed words.now number) out.old out.new result }
 {
     let n = words.len();
-    copy_bytes(words, n, out);
+    out[..n].copy_from_slice(words);
     let a = figures::put_decimal(number, out, n);
     figures::put(out, a, NEWLINE)
 }

@@ -61,7 +61,7 @@ pub stays_few : {number refused : ℕ} (h t : List ℕ) {line total : ℕ} {g : 
 stays_few {number} {refused} h t e few = subst (λ s. s.refused < s.number) e (after_few (holding number refused h) t few)
 
 -- ---- the lines that lie whole in a chunk
-module _ (chunk : List ℕ) (from number refused : ℕ) (bytes₀ : List ℕ) (numbers₀ : List ℤ) (out₀ : List ℕ) (at : ℕ) where
+module _ (chunk : List ℕ) (from number refused : ℕ) (out₀ : List ℕ) (at : ℕ) where
   abbrev first : Between
   first = holding number refused []
 
@@ -76,11 +76,9 @@ module _ (chunk : List ℕ) (from number refused : ℕ) (bytes₀ : List ℕ) (n
     pub ends : n ≡ at + length (put first (part from next chunk))
     pub fits : n ≤ length out₀
     pub clean : Clean bytes numbers
-    pub bytes_long : length bytes ≡ length bytes₀
-    pub numbers_long : length numbers ≡ length numbers₀
     pub out_long : length out ≡ length out₀
 
-  pub goes_start : from ≤ length chunk → Clean bytes₀ numbers₀ → at ≤ length out₀ → Goes from number refused at bytes₀ numbers₀ out₀
+  pub goes_start : {bytes : List ℕ} {numbers : List ℤ} → from ≤ length chunk → Clean bytes numbers → at ≤ length out₀ → Goes from number refused at bytes numbers out₀
   unfolding after put stored
   goes_start h w k =
       let none : length (put first (part from from chunk)) ≡ 0 = ap (λ z. length (put first z)) (part_none from chunk) in
@@ -94,8 +92,6 @@ module _ (chunk : List ℕ) (from number refused : ℕ) (bytes₀ : List ℕ) (n
         ends = omega (arith, none);
         fits = k;
         clean = w;
-        bytes_long = refl;
-        numbers_long = refl;
         out_long = refl;
       }
 
@@ -131,20 +127,18 @@ module _ (chunk : List ℕ) (from number refused : ℕ) (bytes₀ : List ℕ) (n
         ends = omega (arith, p.puts.ends, a, length-append before e, ap length text);
         fits = omega (arith, p.puts.near, w.out_long);
         clean = still_clean p w.clean;
-        bytes_long = ap length p.bytes_same ∙ w.bytes_long;
-        numbers_long = ap length p.numbers_same ∙ w.numbers_long;
         out_long = p.out_long ∙ w.out_long;
       }
 
-  pub goes_end : {next line total n : ℕ} {bytes : List ℕ} {numbers : List ℤ} {out : List ℕ} → Goes next line total n bytes numbers out
-      → Runs chunk from number refused out₀ at next line total 0 out n × Clean bytes numbers
-  goes_end w = (
+  pub goes_end : {next line total held n : ℕ} {bytes : List ℕ} {numbers : List ℤ} {out : List ℕ} → Goes next line total n bytes numbers out × (held ≡ 0)
+      → Runs chunk from number refused out₀ at next line total held out n × Clean bytes numbers
+  goes_end (w, none) = (
     record {
       past = w.past;
       inside = w.inside;
       grows = w.grows;
       count = w.count;
-      none_held = refl;
+      none_held = none;
       leaves = w.leaves;
       puts = w.puts;
       ends = w.ends;

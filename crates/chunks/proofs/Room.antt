@@ -1,10 +1,8 @@
 -- What was lent has room still: the tables are as long as they were, and the areas are as they were.
-use mathlib.Core.Path.{◌≡◌, refl, sym, ◌∙◌, subst}
+use mathlib.Core.Path.{sym, subst}
 use mathlib.Core.List.{List}
 use Prim.Native.Nat.{ℕ}
-use native.Mathlib.Omega.{arith}
 use lib.IntN.{ℤ}
-use lib.ListN.{length}
 use Rattle.store.specs.Filled.{Clean}
 use Rattle.entries.specs.Entry.{Printed}
 

@@ -13,6 +13,7 @@ ghost use Rattle.chunks.specs.Cuts.{stride_size, Passed, LineEnd, Keeps, Cuts};
 ghost use Rattle.chunks.specs.Lent.{number_limit, Ready};
 ghost use Rattle.chunks.specs.Puts.{Fronts, Runs, Feeds};
 
+use areas::{Bytes, Numbers};
 use entries::{ENTRY, Entered, NEWLINE, put_entry};
 use scope::tables::Tables;
 use sheet::Sheet;
@@ -26,7 +27,7 @@ pub const HOLD: usize = Tables::LINE + 1;
 pub const OUTPUT: usize = 3 * ENTRY;
 
 // A chunk cut behind the end of a line, or at its own: where the next byte stands, and how many bytes are held of the line.
-#[derive(Drop)]
+#[derive(Clone, Copy, Debug, PartialEq, Eq)]
 struct Cut {
     next: usize,
     held: usize,
@@ -45,7 +46,8 @@ fn has_end(chunk: &[u8], at: usize) -> bool
     so
 }
 
-// From a place of the chunk on, stride by stride, as long as no line ends in the next one.
+// From a place of the chunk on, stride by stride, as long as no line ends in the next one. The cursor stays where a stride is not whole or ends a line: no range
+// of `for` has that place as its result.
 fn skip_plain(chunk: &[u8], from: usize) -> usize
     requires { from ≤ length chunk.now }
     ensures { Passed chunk.now from result }
@@ -105,7 +107,7 @@ fn gather(chunk: &[u8], from: usize, hold: &mut [u8], held: usize) -> Cut
 
 // How far a chunk is taken in; the number of the line that is begun or comes next, how many lines before it were refused, and how many bytes are held of it;
 // how many bytes are put.
-#[derive(Drop)]
+#[derive(Clone, Copy, Debug, PartialEq, Eq)]
 pub struct Fed {
     pub next: usize,
     pub number: u64,
@@ -121,8 +123,8 @@ fn put_part(
     from: usize,
     end: usize,
     sheet: &mut Sheet,
-    bytes: &mut [u8],
-    numbers: &mut [i64],
+    bytes: &mut Bytes,
+    numbers: &mut Numbers,
     out: &mut [u8],
     at: usize,
 ) -> Entered
@@ -146,42 +148,39 @@ fn put_lines(
     number: u64,
     refused: u64,
     sheet: &mut Sheet,
-    bytes: &mut [u8],
-    numbers: &mut [i64],
+    bytes: &mut Bytes,
+    numbers: &mut Numbers,
     out: &mut [u8],
     at: usize,
 ) -> Fed
     requires { (from ≤ length chunk.now) × (number + length chunk.now ≤ number_limit + from) × Clean bytes.old numbers.old × (at ≤ length out.old) × (refused < number) }
     ensures { Runs chunk.now from number refused out.old at result.next result.number result.refused result.held out.new result.put × Clean bytes.new numbers.new }
 {
-    let mut next = from;
-    let mut line = number;
-    let mut total = refused;
-    let mut n = at;
-    while ENTRY <= out.len() - n {
-        let end = line_end(chunk, next);
-        if end == chunk.len() {
-            return Fed {
-                next,
-                number: line,
-                refused: total,
-                held: 0,
-                put: n,
-            };
-        }
-        let entered = put_part(line, chunk, next, end, sheet, bytes, numbers, out, n);
-        n = entered.next;
-        total += one_if(entered.refused);
-        next = end + 1;
-        line += 1;
-    }
-    Fed {
-        next,
-        number: line,
-        refused: total,
+    let mut fed = Fed {
+        next: from,
+        number,
+        refused,
         held: 0,
-        put: n,
+        put: at,
+    };
+    while ENTRY <= out.len() - fed.put {
+        let end = line_end(chunk, fed.next);
+        if end == chunk.len() {
+            return fed;
+        }
+        let entered = put_part(
+            fed.number, chunk, fed.next, end, sheet, bytes, numbers, out, fed.put,
+        );
+        let total = fed.refused + one_if(entered.refused);
+        fed = Fed {
+            next: end + 1,
+            number: fed.number + 1,
+            refused: total,
+            put: entered.next,
+            ..fed
+        };
     }
+    fed
 }
 
 // Takes a chunk in from a place on. The line that is begun goes on to the chunk's end; or it ends there, and its entry and those of the lines behind it
@@ -194,39 +193,37 @@ pub fn feed(
     hold: &mut [u8],
     held: usize,
     sheet: &mut Sheet,
-    bytes: &mut [u8],
-    numbers: &mut [i64],
+    bytes: &mut Bytes,
+    numbers: &mut Numbers,
     out: &mut [u8],
 ) -> Fed
     requires { (from ≤ length chunk.now) × (number + length chunk.now ≤ number_limit + from) × Ready hold.old held bytes.old numbers.old out.old × (refused < number) }
     ensures { Feeds chunk.now from number refused hold.old held out.old result.next result.number result.refused hold.new result.held out.new result.put × Ready hold.new result.held bytes.new numbers.new out.new }
 {
     let cut = gather(chunk, from, hold, held);
-    let next = cut.next;
-    let n = cut.held;
-    if !cut.ended {
-        return Fed {
-            next,
+    if cut.ended {
+        let entered = put_part(number, hold, 0, cut.held, sheet, bytes, numbers, out, 0);
+        let total = refused + one_if(entered.refused);
+        put_lines(
+            chunk,
+            cut.next,
+            number + 1,
+            total,
+            sheet,
+            bytes,
+            numbers,
+            out,
+            entered.next,
+        )
+    } else {
+        Fed {
+            next: cut.next,
             number,
             refused,
-            held: n,
+            held: cut.held,
             put: 0,
-        };
+        }
     }
-    let entered = put_part(number, hold, 0, n, sheet, bytes, numbers, out, 0);
-    let at = entered.next;
-    let total = refused + one_if(entered.refused);
-    put_lines(
-        chunk,
-        next,
-        number + 1,
-        total,
-        sheet,
-        bytes,
-        numbers,
-        out,
-        at,
-    )
 }
 
 // At the end of the input the entry of a line that is begun is put at the front of the output.
@@ -235,18 +232,19 @@ pub fn finish(
     hold: &[u8],
     held: usize,
     sheet: &mut Sheet,
-    bytes: &mut [u8],
-    numbers: &mut [i64],
+    bytes: &mut Bytes,
+    numbers: &mut Numbers,
     out: &mut [u8],
 ) -> Entered
     requires { Ready hold.now held bytes.old numbers.old out.old }
     ensures { Fronts (last_put number (take held hold.now)) out.old out.new result.next × (result.refused ≡ last_refused (take held hold.now)) }
 {
     if held == 0 {
-        return Entered {
+        Entered {
             next: 0,
             refused: false,
-        };
+        }
+    } else {
+        put_part(number, hold, 0, held, sheet, bytes, numbers, out, 0)
     }
-    put_part(number, hold, 0, held, sheet, bytes, numbers, out, 0)
 }

@@ -20,6 +20,7 @@ use Rattle.reading_laws.proofs.Bare.{same_canonical, same_total, same_lacking}
 use Rattle.canonical_laws.proofs.Proved as canonicals
 use Rattle.reader.specs.ReadSays.{Stored}
 use Rattle.store.specs.Filled.{Fills}
+use Rattle.verdict.specs.declared.Noted.{Noted}
 use Rattle.store.proofs.NotedLine.{is_accepted, residues_many, brackets_many}
 use Rattle.reader.proofs.Storing.{holds_of}
 use Rattle.entries.specs.Entry.{ok_fields, no_fields, Known, Floats}
@@ -48,9 +49,9 @@ floats_of s {l} e f m q =
 total_bare : (l : Line ℕ) → total_text (tables_of l) ≡ total_text l
 total_bare l = rw (same_lacking l, same_total l)
 
-pub taken_text : {line : List ℕ} {sheet : Sheet} {residues brackets many : ℕ} {bs : List ℕ} {ns : List ℤ} {bs' : List ℕ} {ns' : List ℤ}
-    → (f : Fills line sheet residues brackets bs ns) → Floats line many → Stored line bs ns bs' ns'
-    → fields (ok_fields residues brackets many (tables_in bs' ns')) ≡ report (outcome line)
+pub taken_text : {line : List ℕ} {sheet : Sheet} {n : Noted} {bs : List ℕ} {ns : List ℤ} {bs' : List ℕ} {ns' : List ℤ}
+    → (f : Fills line sheet n.residues n.brackets bs ns) → Floats line n.floaters → Stored line bs ns bs' ns'
+    → fields (ok_fields n (tables_in bs' ns')) ≡ report (outcome line)
 taken_text f floats w =
     let l = f.holds_line in
     let noted = f.line_noted in

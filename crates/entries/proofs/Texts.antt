@@ -12,7 +12,6 @@ use lib.Seq.{take_all}
 use lib.Signed.{lt_z}
 use mir.Syntax.{w64}
 use mir.Val.{SFits, to_z, of_z}
-use mir.Facts.{to_z-of_z}
 use Rattle.scope.specs.Bytes.{question, plus, dash}
 use Rattle.scope.specs.Line.{Line}
 use Rattle.scope.specs.Refusals.{outcome}
@@ -20,8 +19,8 @@ use Rattle.scope.specs.Canonical.{decimal}
 use Rattle.scope.specs.Layout.{is_negative}
 use Rattle.scope.specs.Masses.{total, lacking}
 use Rattle.scope.specs.Register.{signed_text, total_text, fields, report, printed}
-use Rattle.masses.specs.declared.Weight.{Weight}
-use Rattle.masses.specs.declared.Weight.TheVariants.{Total, Lacks}
+use Rattle.std.specs.Prelude.{Result, Ok, Err}
+use Rattle.masses.specs.declared.Lacking.{Lacking}
 use Rattle.masses.specs.Weights.{weight_of}
 use Rattle.figures.specs.Written.{stored, Puts}
 use Rattle.figures.proofs.Storing.{stored_from, puts_of, puts_join}
@@ -56,25 +55,28 @@ plus_of : (m : ℤ) → is_negative m ≡ false → plus ∷ decimal (nat_abs m)
 plus_of (pos n) e = refl
 plus_of (negsuc n) e = absurd (true≢false e)
 
-module _ (m : ℤ) (f : SFits w64 m) {n : ℕ} (e : n ≡ nat_abs (to_z w64 (of_z w64 m))) where
-  pub minus_text : lt_z (to_z w64 (of_z w64 m)) (pos 0) ≡ true → (dash ∷ []) ++ decimal n ≡ signed_text m
-  minus_text t = ap (λ k. dash ∷ decimal k) (e ∙ ap nat_abs (to_z-of_z f)) ∙ minus_of m (sym (tested m f) ∙ t)
+module _ (m : ℤ) (f : SFits w64 m) where
+  pub minus_text : lt_z (to_z w64 (of_z w64 m)) (pos 0) ≡ true → dash ∷ decimal (nat_abs m) ≡ signed_text m
+  minus_text t = minus_of m (sym (tested m f) ∙ t)
 
-  pub plus_text : lt_z (to_z w64 (of_z w64 m)) (pos 0) ≡ false → (plus ∷ []) ++ decimal n ≡ signed_text m
-  plus_text t = ap (λ k. plus ∷ decimal k) (e ∙ ap nat_abs (to_z-of_z f)) ∙ plus_of m (sym (tested m f) ∙ t)
+  pub plus_text : lt_z (to_z w64 (of_z w64 m)) (pos 0) ≡ false → plus ∷ decimal (nat_abs m) ≡ signed_text m
+  plus_text t = plus_of m (sym (tested m f) ∙ t)
+
+pub sign_then : {m x : ℤ} {b n : ℕ} → x ≡ m → n ≡ nat_abs x → b ∷ decimal (nat_abs x) ≡ signed_text x → (b ∷ []) ++ decimal n ≡ signed_text m
+sign_then {b = b} e q h = ap (λ k. b ∷ decimal k) q ∙ h ∙ ap signed_text e
 
 -- ---- the total
-pub total_told_lem : {w : Weight} {m x : ℤ} → w ≡ Total m → x ≡ m → signed_text x ≡ weight_text w
+pub total_told_lem : {w : Result ℤ Lacking} {m x : ℤ} → w ≡ Ok m → x ≡ m → signed_text x ≡ weight_text w
 total_told_lem e f = ap signed_text f ∙ ap weight_text (sym e)
 
-pub lacks_told : {w : Weight} {n : ℕ} → w ≡ Lacks n → (question ∷ []) ++ decimal n ≡ weight_text w
+pub lacks_told : {w : Result ℤ Lacking} {l : Lacking} → w ≡ Err l → (question ∷ []) ++ decimal l.count ≡ weight_text w
 lacks_told e = ap weight_text (sym e)
 
 pub weight_text_lem : {P : Type 0} (t : Line P) → weight_text (weight_of t) ≡ total_text t
 unfolding weight_of
 weight_text_lem t = by (eqb (lacking t) 0)
   where
-    by : (b : Bool) → weight_text (cond b (Total (total t)) (Lacks (lacking t))) ≡ cond b (signed_text (total t)) (question ∷ decimal (lacking t))
+    by : (b : Bool) → weight_text (cond b (Ok (total t)) (Err (record { count = lacking t }))) ≡ cond b (signed_text (total t)) (question ∷ decimal (lacking t))
     by true = refl
     by false = refl
 

@@ -1,5 +1,5 @@
 -- The entry of a line: what the register prints for it, in an output that the caller lends.
-use Rattle.std.specs.Prelude.{◌≡◌, Bool, true, false, List, [], ◌∷◌, ◌++◌, ℕ, ◌+◌, ◌*◌, ◌≤◌, ℤ, length}
+use Rattle.std.specs.Prelude.{◌≡◌, Bool, true, false, List, [], ◌∷◌, ◌++◌, ℕ, ◌+◌, ◌*◌, ◌≤◌, ℤ, length, Result, Ok, Err}
 use Rattle.scope.specs.Bytes.{bytes, question}
 use Rattle.scope.specs.Limits.{line_limit}
 use Rattle.scope.specs.Line.{Line}
@@ -10,8 +10,8 @@ use Rattle.scope.specs.Positions.{floaters}
 use Rattle.scope.specs.Register.{signed_text, total_text, printed}
 use Rattle.areas.specs.Bounds.{Bounds}
 use Rattle.order_laws.specs.Ranks.{InOrder}
-use Rattle.masses.specs.declared.Weight.{Weight}
-use Rattle.masses.specs.declared.Weight.TheVariants.{Total, Lacks}
+use Rattle.masses.specs.declared.Lacking.{Lacking}
+use Rattle.verdict.specs.declared.Noted.{Noted}
 use Rattle.figures.specs.Written.{Puts, decimal_most}
 use Rattle.writer.specs.Written.{line_most}
 
@@ -25,20 +25,20 @@ is_refused (accepted l) = false
 is_refused (refused number place) = true
 
 -- the fields behind the number of an accepted line: how many residues, brackets and floaters it has, then its total and itself
-abbrev pub count_fields : ℕ → ℕ → ℕ → List (List ℕ)
-count_fields residues brackets many = bytes "ok" ∷ decimal residues ∷ decimal brackets ∷ decimal many ∷ []
+abbrev pub count_fields : Noted → List (List ℕ)
+count_fields n = bytes "ok" ∷ decimal n.residues ∷ decimal n.brackets ∷ decimal n.floaters ∷ []
 
-abbrev pub ok_fields : {P : Type 0} → ℕ → ℕ → ℕ → Line P → List (List ℕ)
-ok_fields residues brackets many l = count_fields residues brackets many ++ (total_text l ∷ canonical l ∷ [])
+abbrev pub ok_fields : {P : Type 0} → Noted → Line P → List (List ℕ)
+ok_fields n l = count_fields n ++ (total_text l ∷ canonical l ∷ [])
 
 -- and of a refused one
 abbrev pub no_fields : ℕ → ℕ → List (List ℕ)
 no_fields number place = bytes "no" ∷ decimal number ∷ decimal place ∷ []
 
 -- "total in millionths (signed, zero as `+0`; or `?` and how many lack a mass)"
-abbrev pub weight_text : Weight → List ℕ
-weight_text (Total m) = signed_text m
-weight_text (Lacks n) = question ∷ decimal n
+abbrev pub weight_text : Result ℤ Lacking → List ℕ
+weight_text (Ok m) = signed_text m
+weight_text (Err l) = question ∷ decimal l.count
 
 -- ---- how many bytes each piece has at most
 -- `ok` or `no`, with a space before it

@@ -1,5 +1,4 @@
 // What the register prints of a line, into a lent output.
-ghost use Rattle.std.specs.Prelude.{◌≤◌, length, take};
 ghost use Rattle.export.specs.Shapes.{Fitted, EntryHanded};
 
 use entries::{ENTRY, put_entry};
@@ -7,17 +6,18 @@ use scope::refusals::Reason;
 use scope::tables::Tables;
 use sheet::Sheet;
 
-// The first n bytes of a text into an output of any length: 0 with their number; else 15 with the length needed, and the output as it was.
-fn hand_out(text: &[u8], n: usize, out: &mut [u8], needed: &mut usize) -> u8
-    requires { n ≤ length text.now }
-    ensures { Fitted (take n text.now) out.old needed.old result needed.new out.new }
+// A text into an output of any length: 0 with its length; else 15 with the length needed, and the output as it was.
+fn hand_out(text: &[u8], out: &mut [u8], needed: &mut usize) -> u8
+    ensures { Fitted text.now out.old needed.old result needed.new out.new }
 {
+    let n = text.len();
     *needed = n;
     if out.len() < n {
-        return Reason::ShortOutput as u8;
+        Reason::ShortOutput as u8
+    } else {
+        out[..n].copy_from_slice(text);
+        0
     }
-    bounds::copy_bytes(text, n, out);
-    0
 }
 
 // What the register prints of a line with this number, and byte 10: 0 and how many bytes were written, with those behind them as they were; else 15 and the length
@@ -38,5 +38,5 @@ pub fn hwemiduk_entry(number: u64, line: &[u8], out: &mut [u8], length: &mut usi
         &mut text,
         0,
     );
-    hand_out(&text, e.next, out, length)
+    hand_out(&text[..e.next], out, length)
 }

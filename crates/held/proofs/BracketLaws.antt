@@ -1,6 +1,6 @@
 -- A bracket is what it has beside its parts, its places, and its parts, which a loop looks at one by one.
 use mathlib.Core.Path.{◌≡◌, refl, sym, ap, subst, ◌∙◌}
-use mathlib.Core.Bool.{Bool, ◌&&◌}
+use mathlib.Core.Bool.{Bool, true, false, ◌&&◌}
 use mathlib.Core.List.{List, [], ◌∷◌, ◌++◌, map}
 use Prim.Native.Nat.{ℕ, ◌+◌, ◌-◌, ◌*◌, ◌≤◌, ◌<◌}
 use native.Mathlib.Omega.{arith}
@@ -18,12 +18,12 @@ use Rattle.sheet.proofs.FieldLaws.{Among, among}
 use Rattle.store.specs.PartPut.{RowFits, PartNoted}
 use Rattle.store.specs.BracketPut.{PlacesFit, BracketNoted}
 use Rattle.store.proofs.NotedRows.{parts_many, head_noted, points_are, places_fit, texts_long, texts_noted, row_noted, number_noted, row_fits}
-use Rattle.held.specs.declared.Seen.{Seen}
+use Rattle.std.specs.Prelude.{Some}
 use Rattle.held.specs.Tells.{Tells}
-use Rattle.held.specs.Held.{PartSeen, FrameHeld, BracketThere, BracketHeld, BracketSeen}
-use Rattle.held.proofs.Joins.{tells_itself, tells_both, Joins, joins_beside, tells_then}
+use Rattle.held.specs.Held.{PartHeld, PartSeen, FrameHeld, BracketThere, BracketHeld, BracketSeen}
+use Rattle.held.proofs.Joins.{tells_both, tells_not, Joins}
 use Rattle.held.proofs.Places.{at_nil, at_joins, at_cons, at_padded}
-use Rattle.held.proofs.Upto.{HeldUpto, upto_start, upto_room, upto_next, upto_texts, upto_end}
+use Rattle.held.proofs.Upto.{HeldUpto, upto_start, upto_room, upto_next, upto_stops, upto_texts, upto_end}
 use Rattle.held.proofs.PartLaws.{mass_of, PartsHeld, no_parts_lem, parts_joins}
 
 -- ---- a bracket is what it has beside its parts, its places, and its parts
@@ -84,61 +84,72 @@ pub some_places : {line heads parts : List ℕ} {masses scores : List ℤ} {k t 
     → (ps : List (Place ℕ)) × PlacesFit line at many k ps
 some_places ea em s = let f = s.1 in (s.0.places, places_fit f.noted ea em f.few_brackets_lem)
 
-pub record HoldingParts (line heads parts : List ℕ) (masses scores : List ℤ) (k : ℕ) (bytes : List ℕ) (numbers : List ℤ) (m n : ℕ) (first : Seen) (j : ℕ) (seen : Seen) : Type 0 where
+pub record HoldingParts (line heads parts : List ℕ) (masses scores : List ℤ) (k : ℕ) (bytes : List ℕ) (numbers : List ℤ) (m n t j u : ℕ) : Type 0 where
   pub base_is : m ≡ base_field heads k
   pub many : n ≡ parts_field heads k
   pub few : j ≤ n
-  pub there : (b : Bracket ℕ) × BracketThere line heads parts masses scores k first.texts b
-  pub upto : (b : Bracket ℕ) → BracketThere line heads parts masses scores k first.texts b
-      → HeldUpto (PartsHeld bytes numbers k) packed first.texts b.parts first.so j seen.texts seen.so
+  pub there : (b : Bracket ℕ) × BracketThere line heads parts masses scores k t b
+  pub upto : (b : Bracket ℕ) → BracketThere line heads parts masses scores k t b → HeldUpto (PartsHeld bytes numbers k) packed t b.parts j u
 
-module _ {line heads parts : List ℕ} {masses scores : List ℤ} {k : ℕ} {bytes : List ℕ} {numbers : List ℤ} {m n : ℕ} where
-  pub parting_start : (first : Seen) → (b : Bracket ℕ) × BracketThere line heads parts masses scores k first.texts b → m ≡ base_field heads k → n ≡ parts_field heads k
-      → HoldingParts line heads parts masses scores k bytes numbers m n first 0 first
-  parting_start first s e f = record { base_is = e; many = f; few = omega arith; there = s; upto = λ b h. upto_start }
+module _ {line heads parts : List ℕ} {masses scores : List ℤ} {k : ℕ} {bytes : List ℕ} {numbers : List ℤ} {m n t j u : ℕ}
+    (w : HoldingParts line heads parts masses scores k bytes numbers m n t j u) where
+  module _ {b : Bracket ℕ} (f : BracketThere line heads parts masses scores k t b) (h : j < n) where
+    next : Among b.parts j
+    next = among b.parts j (omega (arith, w.many, parts_many f.noted))
 
-  module _ {first : Seen} {j : ℕ} {seen : Seen} (w : HoldingParts line heads parts masses scores k bytes numbers m n first j seen) where
-    module _ {b : Bracket ℕ} (f : BracketThere line heads parts masses scores k first.texts b) (h : j < n) where
-      next : Among b.parts j
-      next = among b.parts j (omega (arith, w.many, parts_many f.noted))
+    next_noted : PartNoted line parts masses (m + j) next.this
+    next_noted =
+        let e : f.noted.base + length next.before ≡ m + j = omega (arith, w.base_is, f.noted.fields.base_is, next.place) in
+        subst (λ i. PartNoted line parts masses i next.this) e (f.noted.parts_are next.before next.this next.behind next.is)
 
-      next_noted : PartNoted line parts masses (m + j) next.this
-      next_noted =
-          let e : f.noted.base + length next.before ≡ m + j = omega (arith, w.base_is, f.noted.fields.base_is, next.place) in
-          subst (λ i. PartNoted line parts masses i next.this) e (f.noted.parts_are next.before next.this next.behind next.is)
-
-      fits : RowFits line parts masses (m + j) k j seen.texts
-      fits =
-          let all_parts : n ≡ length b.parts = w.many ∙ parts_many f.noted in
-          row_fits next_noted (omega (arith, w.base_is, f.noted.fields.base_is, f.noted.few_rows))
-          (omega (arith, upto_room (w.upto b f) next, f.texts_room)) f.few_brackets_lem (omega (arith, f.noted.within.few_parts_lem))
-
-      further : {r : Seen} → PartSeen line parts masses (m + j) k j bytes numbers seen r
-          → HeldUpto (PartsHeld bytes numbers k) packed first.texts b.parts first.so (j + 1) r.texts r.so
-      further {r} q =
-          let p = next.this in
-          let t = seen.texts in
-          let e : r.texts ≡ t + length (packed p) = q.texts_are ∙ ap (λ i. t + i) (texts_long next_noted) in
-          upto_next (w.upto b f) next e (parts_joins bytes numbers k j t p next.behind r.texts e)
-          (rw (row_noted next_noted t, texts_noted next_noted, number_noted next_noted) at q.decided)
-
-    pub parting_fits : j < n → RowFits line parts masses (m + j) k j seen.texts
-    parting_fits h = fits w.there.1 h
-
-    pub parting_next : j < n → {r : Seen} → PartSeen line parts masses (m + j) k j bytes numbers seen r → HoldingParts line heads parts masses scores k bytes numbers m n first (j + 1) r
-    parting_next h q = record { base_is = w.base_is; many = w.many; few = omega arith; there = w.there; upto = λ b f. further f h q }
-
-    pub parting_end : numbers_size ≤ length numbers → n ≤ j → {before frame places : Bool} {at many : ℕ} → first.so ≡ (before && (frame && places)) → Tells frame (FrameHeld heads scores k n bytes numbers)
-        → at ≡ places_field heads k → many ≡ many_field heads k → ((ps : List (Place ℕ)) → PlacesFit line at many k ps → Tells places (At bytes (places_at k) (places_row ps)))
-        → (b : Bracket ℕ) → BracketThere line heads parts masses scores k first.texts b → BracketSeen k b bytes numbers (record { so = before; texts = first.texts }) seen
-    parting_end long h {before} e v ea em told b f =
+    fits : RowFits line parts masses (m + j) k j u
+    fits =
         let all_parts : n ≡ length b.parts = w.many ∙ parts_many f.noted in
-        let all : j ≡ length b.parts = omega (arith, w.few) in
-        let u = w.upto b f in
-        record {
-          texts_are = upto_texts u all;
-          decided =
-              tells_then
-              (joins_beside (bracket_joins f.noted bytes numbers f.few_brackets_lem long first.texts n all_parts))
-              (rw e (tells_both (tells_itself before) (tells_both v (told b.places (places_fit f.noted ea em f.few_brackets_lem))))) (upto_end u all (no_parts_lem bytes numbers k j seen.texts));
-        }
+        row_fits next_noted (omega (arith, w.base_is, f.noted.fields.base_is, f.noted.few_rows))
+        (omega (arith, upto_room (w.upto b f) next, f.texts_room)) f.few_brackets_lem (omega (arith, f.noted.within.few_parts_lem))
+
+    further : {v : ℕ} → PartSeen line parts masses (m + j) k j u bytes numbers (Some v) → HeldUpto (PartsHeld bytes numbers k) packed t b.parts (j + 1) v
+    further {v} q =
+        let p = next.this in
+        let e : v ≡ u + length (packed p) = q.0 ∙ ap (λ i. u + i) (texts_long next_noted) in
+        upto_next (w.upto b f) next e (parts_joins bytes numbers k j u p next.behind v e) (rw (row_noted next_noted u, texts_noted next_noted, number_noted next_noted) at q.1)
+
+  pub parting_fits : j < n → RowFits line parts masses (m + j) k j u
+  parting_fits h = fits w.there.1 h
+
+  pub parting_next : j < n → {v : ℕ} → PartSeen line parts masses (m + j) k j u bytes numbers (Some v) → HoldingParts line heads parts masses scores k bytes numbers m n t (j + 1) v
+  parting_next h q = record { base_is = w.base_is; many = w.many; few = omega arith; there = w.there; upto = λ b f. further f h q }
+
+module _ {line heads parts : List ℕ} {masses scores : List ℤ} {k : ℕ} {bytes : List ℕ} {numbers : List ℤ} {m n t : ℕ} where
+  pub parting_start : (b : Bracket ℕ) × BracketThere line heads parts masses scores k t b → m ≡ base_field heads k → n ≡ parts_field heads k
+      → HoldingParts line heads parts masses scores k bytes numbers m n t 0 t
+  parting_start s e f = record { base_is = e; many = f; few = omega arith; there = s; upto = λ b h. upto_start }
+
+-- what it has beside its parts
+module _ {line heads parts : List ℕ} {masses scores : List ℤ} {k : ℕ} {bytes : List ℕ} {numbers : List ℤ} {n t : ℕ} where
+  module _ {at many : ℕ} (en : n ≡ parts_field heads k) (ea : at ≡ places_field heads k) (em : many ≡ many_field heads k)
+      {frame places : Bool} (long : numbers_size ≤ length numbers) (v : Tells frame (FrameHeld heads scores k n bytes numbers))
+      (told : (ps : List (Place ℕ)) → PlacesFit line at many k ps → Tells places (At bytes (places_at k) (places_row ps))) where
+    beside : (b : Bracket ℕ) → BracketThere line heads parts masses scores k t b → Tells (frame && places) (FrameHeld heads scores k n bytes numbers × At bytes (places_at k) (places_row b.places))
+    beside b f = tells_both v (told b.places (places_fit f.noted ea em f.few_brackets_lem))
+
+    whole : (b : Bracket ℕ) (f : BracketThere line heads parts masses scores k t b)
+        → Joins (FrameHeld heads scores k n bytes numbers × At bytes (places_at k) (places_row b.places)) (PartsHeld bytes numbers k 0 t b.parts) (BracketHeld k t b bytes numbers)
+    whole b f = bracket_joins f.noted bytes numbers f.few_brackets_lem long t n (en ∙ parts_many f.noted)
+
+    pub frame_stops : (frame && places) ≡ false → (b : Bracket ℕ) → BracketThere line heads parts masses scores k t b → BracketHeld k t b bytes numbers → ⊥
+    frame_stops e b f z = tells_not (beside b f) e ((whole b f).back z).0
+
+    module _ {m j u : ℕ} (w : HoldingParts line heads parts masses scores k bytes numbers m n t j u) where
+      pub parting_stops : j < n → (PartHeld line parts masses (m + j) k j u bytes numbers → ⊥) → (b : Bracket ℕ) → BracketThere line heads parts masses scores k t b → BracketHeld k t b bytes numbers → ⊥
+      parting_stops h q b f z =
+          let x = next w f h in
+          let p = next_noted w f h in
+          upto_stops (w.upto b f) x (parts_joins bytes numbers k j u x.this x.behind _ refl) (rw (row_noted p u, texts_noted p, number_noted p) at q) ((whole b f).back z).1
+
+      pub parting_end : n ≤ j → (frame && places) ≡ true → (b : Bracket ℕ) → BracketThere line heads parts masses scores k t b → BracketSeen k t b bytes numbers (Some u)
+      parting_end h e b f =
+          let all_parts : n ≡ length b.parts = w.many ∙ parts_many f.noted in
+          let all : j ≡ length b.parts = omega (arith, w.few) in
+          let x = w.upto b f in
+          (upto_texts x all, (whole b f).on ((beside b f).on e) (upto_end x all (no_parts_lem bytes numbers k j u)))

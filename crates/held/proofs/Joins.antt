@@ -1,6 +1,8 @@
 -- Answers that tell whether a fact holds: one, two joined by `&`, and the answer of a loop beside what it has not looked at yet.
 use mathlib.Core.Path.{◌≡◌, sym, ap, ◌∙◌}
-use mathlib.Core.Bool.{Bool, true, ◌&&◌}
+use mathlib.Core.Bool.{Bool, true, false, ◌&&◌, true≢false}
+use Rattle.std.specs.Prelude.{Some}
+use Rattle.held.specs.Held.{Gives}
 use Prim.Native.Nat.{ℕ}
 use borrow.Author.Tests.{eqb-true, eq-eqb}
 use lib.Dec.{eqb}
@@ -37,29 +39,6 @@ pub record Joins (P Q W : Type 0) : Type 0 where
 pub tells_joined : {r t : Bool} {P Q W : Type 0} → Joins P Q W → Tells r P → Tells t Q → Tells (r && t) W
 tells_joined w v u = tells_as (λ p. w.on p.0 p.1) w.back (tells_both v u)
 
-pub joins_pair : {P Q : Type 0} → Joins P Q (P × Q)
-joins_pair = record { on = λ p q. (p, q); back = λ p. p }
-
--- beside a third
-pub joins_beside : {S P Q W : Type 0} → Joins P Q W → Joins (S × P) Q (S × W)
-joins_beside w =
-    record {
-      on = λ p q. (p.0, w.on p.1 q);
-      back = λ p.
-          let x = w.back p.1 in
-          ((p.0, x.0), x.1);
-    }
-
--- an answer to Q that is yes only where an earlier one to P was yes
-pub tells_then : {first r : Bool} {P Q W : Type 0} → Joins P Q W → Tells first P → Tells r ((first ≡ true) × Q) → Tells r W
-tells_then w v u =
-    record {
-      on = λ e. w.on (v.on (u.on e).0) (u.on e).1;
-      back = λ x.
-          let p = w.back x in
-          u.back (v.back p.0, p.1);
-    }
-
 -- ---- a loop: its answer so far, and what is left, are the whole
 abbrev pub Left : Bool → Type 0 → Type 0 → Type 0
 Left so Rest Whole = Joins (so ≡ true) Rest Whole
@@ -78,3 +57,11 @@ left_more w j v =
 -- nothing left
 pub left_end : {so : Bool} {Rest Whole : Type 0} → Left so Rest Whole → Rest → Tells so Whole
 left_end w x = record { on = λ e. w.on e x; back = λ z. (w.back z).0 }
+
+-- ---- an answer that gives a number where a fact holds
+module _ {r : Bool} {A : Type 0} (v : Tells r A) where
+  pub gives_some : {u n : ℕ} → u ≡ n → r ≡ true → Gives (Some u) n A
+  gives_some e q = (e, v.on q)
+
+  pub tells_not : r ≡ false → A → ⊥
+  tells_not q a = true≢false (sym (v.back a) ∙ q)

@@ -1,6 +1,6 @@
 -- The loop over the brackets of a line, each behind those before it; with what stands in front of the rows, and zeros behind all, the areas are those of the line.
 use mathlib.Core.Path.{◌≡◌, refl, sym, ap, ap₂, subst, ◌∙◌}
-use mathlib.Core.Bool.{Bool, ◌&&◌}
+use mathlib.Core.Bool.{Bool, true, false, ◌&&◌, false≢true}
 use mathlib.Core.List.{List, [], ◌∷◌, ◌++◌, map}
 use Prim.Native.Nat.{ℕ, ◌+◌, ◌-◌, ◌*◌, ◌≤◌, ◌<◌}
 use native.Mathlib.Nat.{zero-add}
@@ -25,12 +25,12 @@ use Rattle.sheet.specs.Kept.{LineNoted}
 use Rattle.sheet.proofs.FieldLaws.{Among, among}
 use Rattle.store.specs.BracketPut.{BracketNoted}
 use Rattle.store.proofs.NotedLine.{is_accepted, within, residues_many, brackets_many, letters_are, sections_are, bracket_noted}
-use Rattle.held.specs.declared.Seen.{Seen}
+use Rattle.std.specs.Prelude.{Some}
 use Rattle.held.specs.Tells.{Tells}
 use Rattle.held.specs.Held.{FrontHeld, HeldFrom, BracketThere, BracketHeld, BracketSeen, RestHeld}
-use Rattle.held.proofs.Joins.{Joins, joins_pair, tells_joined, tells_then}
+use Rattle.held.proofs.Joins.{tells_as, tells_not, Joins}
 use Rattle.held.proofs.Places.{at_nil, at_joins, at_padded}
-use Rattle.held.proofs.Upto.{held_joins, HeldUpto, upto_start, upto_room, upto_next, upto_texts, upto_end}
+use Rattle.held.proofs.Upto.{held_joins, HeldUpto, upto_start, upto_room, upto_next, upto_stops, upto_texts, upto_end}
 
 -- ---- the brackets from k on, their texts behind t others
 abbrev pub BracketsHeld : List ℕ → List ℤ → ℕ → ℕ → List (Bracket ℕ) → Type 0
@@ -127,22 +127,39 @@ module _ (l : Line ℕ) (w : Within l) (bytes : List ℕ) (numbers : List ℤ) w
       v.back (front_at bytes_size (bytes_of l) bytes (b.0 p.0), front_at numbers_size (numbers_of l) numbers (n.0 p.1)))
 
 -- ---- the loop, over the brackets of the line that is noted
-pub record HoldingBrackets (line : List ℕ) (sheet : Sheet) (residues brackets : ℕ) (bytes : List ℕ) (numbers : List ℤ) (first : Seen) (k : ℕ) (seen : Seen) : Type 0 where
+pub record HoldingBrackets (line : List ℕ) (sheet : Sheet) (residues brackets : ℕ) (bytes : List ℕ) (numbers : List ℤ) (k t : ℕ) : Type 0 where
   pub holds_line : Line ℕ
   pub noted : LineNoted line sheet residues brackets holds_line
   pub few : k ≤ brackets
-  pub upto : HeldUpto (BracketsHeld bytes numbers) bracket_texts 0 holds_line.brackets first.so k seen.texts seen.so
+  pub upto : HeldUpto (BracketsHeld bytes numbers) bracket_texts 0 holds_line.brackets k t
 
 pub front_fits : {line : List ℕ} {sheet : Sheet} {residues brackets : ℕ} {l : Line ℕ}
     → LineNoted line sheet residues brackets l → (residues ≤ residue_limit) × (brackets ≤ bracket_limit)
 front_fits w = (omega (arith, residues_many w, (within w).few_residues), omega (arith, brackets_many w, (within w).few_brackets_lem))
 
-module _ {line : List ℕ} {sheet : Sheet} {residues brackets : ℕ} {bytes : List ℕ} {numbers : List ℤ} where
-  pub bracketing_start : (so : Bool) {l : Line ℕ} → LineNoted line sheet residues brackets l
-      → HoldingBrackets line sheet residues brackets bytes numbers (record { so = so; texts = 0 }) 0 (record { so = so; texts = 0 })
-  bracketing_start so {l} w = record { holds_line = l; noted = w; few = omega arith; upto = upto_start }
+-- what tells whether the areas hold a line that is noted, tells whether it reads to them
+line_told : {line : List ℕ} {sheet : Sheet} {residues brackets : ℕ} {l : Line ℕ} (w : LineNoted line sheet residues brackets l) (bytes : List ℕ) (numbers : List ℤ) {r : Bool}
+    → Tells r (At bytes 0 (bytes_of l) × At numbers 0 (numbers_of l)) → r ≡ reads_to (outcome line) (take bytes_size bytes) (take numbers_size numbers)
+line_told {l = l} w bytes numbers v =
+    told_same l (within w) bytes numbers v ∙ ap (λ o. reads_to o (take bytes_size bytes) (take numbers_size numbers)) (sym (is_accepted w))
 
-  module _ {first : Seen} {k : ℕ} {seen : Seen} (v : HoldingBrackets line sheet residues brackets bytes numbers first k seen) where
+-- with what stands in front of the rows
+module _ {line : List ℕ} {sheet : Sheet} {residues brackets : ℕ} {l : Line ℕ} {first : Bool} (w : LineNoted line sheet residues brackets l) (bytes : List ℕ)
+    (front : Tells first (FrontHeld (counts_row residues brackets) (take residues sheet.letters) (take residues sheet.sections) bytes)) where
+  front_told : Tells first (FrontHeld (counts l) (letters_of_lem l) (sections_of_lem l) bytes)
+  front_told =
+      let counts_are : counts_row residues brackets ≡ counts l = ap₂ counts_row (residues_many w) (brackets_many w) in
+      rw (counts_are, letters_are w, sections_are w) at front
+
+  pub front_stops : (numbers : List ℤ) → first ≡ false → false ≡ reads_to (outcome line) (take bytes_size bytes) (take numbers_size numbers)
+  front_stops numbers e =
+      line_told w bytes numbers (record { on = λ q. absurd (false≢true q); back = λ z. absurd (tells_not front_told e ((line_joins l (within w) bytes numbers).back z).0.0) })
+
+module _ {line : List ℕ} {sheet : Sheet} {residues brackets : ℕ} {bytes : List ℕ} {numbers : List ℤ} where
+  pub bracketing_start : {l : Line ℕ} → LineNoted line sheet residues brackets l → HoldingBrackets line sheet residues brackets bytes numbers 0 0
+  bracketing_start {l} w = record { holds_line = l; noted = w; few = omega arith; upto = upto_start }
+
+  module _ {k t : ℕ} (v : HoldingBrackets line sheet residues brackets bytes numbers k t) where
     abbrev l : Line ℕ
     l = v.holds_line
 
@@ -150,7 +167,7 @@ module _ {line : List ℕ} {sheet : Sheet} {residues brackets : ℕ} {bytes : Li
       next : Among l.brackets k
       next = among l.brackets k (omega (arith, brackets_many v.noted))
 
-      next_there : BracketThere line sheet.heads sheet.parts sheet.masses sheet.scores k seen.texts next.this
+      next_there : BracketThere line sheet.heads sheet.parts sheet.masses sheet.scores k t next.this
       next_there =
           let w = v.noted in
           record {
@@ -160,41 +177,43 @@ module _ {line : List ℕ} {sheet : Sheet} {residues brackets : ℕ} {bytes : Li
             texts_room = omega (arith, upto_room v.upto next, (within w).texts);
           }
 
-      pub bracketing_fits : (b : Bracket ℕ) × BracketThere line sheet.heads sheet.parts sheet.masses sheet.scores k seen.texts b
+      pub bracketing_fits : (b : Bracket ℕ) × BracketThere line sheet.heads sheet.parts sheet.masses sheet.scores k t b
       bracketing_fits = (next.this, next_there)
 
-      pub bracketing_next : {r : Seen} → ((b : Bracket ℕ) → BracketThere line sheet.heads sheet.parts sheet.masses sheet.scores k seen.texts b → BracketSeen k b bytes numbers seen r)
-          → HoldingBrackets line sheet residues brackets bytes numbers first (k + 1) r
-      bracketing_next {r} told =
+      joins : (u : ℕ) → u ≡ t + length (bracket_texts next.this) → Joins (BracketHeld k t next.this bytes numbers) (BracketsHeld bytes numbers (k + 1) u next.behind) (BracketsHeld bytes numbers k t (next.this ∷ next.behind))
+      joins u e = brackets_joins bytes numbers k t next.this next.behind u next_there.noted.within.few_parts_lem next_there.noted.within.few_places e
+
+      pub bracketing_next : {u : ℕ} → ((b : Bracket ℕ) → BracketThere line sheet.heads sheet.parts sheet.masses sheet.scores k t b → BracketSeen k t b bytes numbers (Some u))
+          → HoldingBrackets line sheet residues brackets bytes numbers (k + 1) u
+      bracketing_next {u} told =
           let q = told next.this next_there in
-          record {
-            holds_line = l;
-            noted = v.noted;
-            few = omega arith;
-            upto =
-                upto_next v.upto next q.texts_are
-                (brackets_joins bytes numbers k seen.texts next.this next.behind r.texts next_there.noted.within.few_parts_lem next_there.noted.within.few_places q.texts_are) q.decided;
-          }
+          record { holds_line = l; noted = v.noted; few = omega arith; upto = upto_next v.upto next q.0 (joins u q.0) q.1 }
+
+      pub bracketing_stops : ((b : Bracket ℕ) → BracketThere line sheet.heads sheet.parts sheet.masses sheet.scores k t b → BracketHeld k t b bytes numbers → ⊥)
+          → false ≡ reads_to (outcome line) (take bytes_size bytes) (take numbers_size numbers)
+      bracketing_stops told =
+          line_told v.noted bytes numbers
+          (record {
+            on = λ q. absurd (false≢true q);
+            back = λ z. absurd (upto_stops v.upto next (joins _ refl) (told next.this next_there) ((line_joins l (within v.noted) bytes numbers).back z).0.1);
+          })
 
     module _ (all : brackets ≤ k) where
       passed : k ≡ length l.brackets
       passed = omega (arith, v.few, brackets_many v.noted)
 
-      texts_are : seen.texts ≡ length (flat bracket_texts l.brackets)
+      texts_are : t ≡ length (flat bracket_texts l.brackets)
       texts_are = upto_texts v.upto passed ∙ zero-add (length (flat bracket_texts l.brackets))
 
-      pub rest_fits : (brackets ≤ bracket_limit) × (seen.texts ≤ line_limit)
+      pub rest_fits : (brackets ≤ bracket_limit) × (t ≤ line_limit)
       rest_fits =
           let w = v.noted in
           (omega (arith, brackets_many w, (within w).few_brackets_lem), omega (arith, texts_are, (within w).texts))
 
-      pub line_told : {r : Bool} → Tells first.so (FrontHeld (counts_row residues brackets) (take residues sheet.letters) (take residues sheet.sections) bytes)
-          → Tells r (RestHeld brackets seen.texts bytes numbers) → (seen.so && r) ≡ reads_to (outcome line) (take bytes_size bytes) (take numbers_size numbers)
-      line_told front rest =
+      pub bracketing_end : {first r : Bool} → Tells first (FrontHeld (counts_row residues brackets) (take residues sheet.letters) (take residues sheet.sections) bytes) → first ≡ true
+          → Tells r (RestHeld brackets t bytes numbers) → r ≡ reads_to (outcome line) (take bytes_size bytes) (take numbers_size numbers)
+      bracketing_end front e rest =
           let w = v.noted in
-          let counts_are : counts_row residues brackets ≡ counts l = ap₂ counts_row (residues_many w) (brackets_many w) in
-          told_same l (within w) bytes numbers
-          (tells_joined (line_joins l (within w) bytes numbers)
-          (tells_then joins_pair (rw (counts_are, letters_are w, sections_are w) at front) (upto_end v.upto passed (no_brackets bytes numbers k seen.texts)))
-          (rw (brackets_many w, texts_are) at rest))
-          ∙ ap (λ o. reads_to o (take bytes_size bytes) (take numbers_size numbers)) (sym (is_accepted w))
+          let j = line_joins l (within w) bytes numbers in
+          let held = upto_end v.upto passed (no_brackets bytes numbers k t) in
+          line_told w bytes numbers (tells_as (λ q. j.on ((front_told w bytes front).on e, held) q) (λ z. (j.back z).1) (rw (brackets_many w, texts_are) at rest))

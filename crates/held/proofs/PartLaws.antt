@@ -18,18 +18,14 @@ use Rattle.sheet.specs.Fields.{value_field, key_field, decimals_field, text_from
 use Rattle.glycans.specs.Cut.{PutBefore}
 use Rattle.store.specs.PartPut.{is_composed, text_put, value_put, decimals_put, mass_put, text_length, label_length, offset_of, row_from, RowFits, RowCut, ShortIs}
 use Rattle.store.proofs.PutRows.{label_long, label_is, noted_text, noted_length, noted_value, noted_decimals, noted_mass, cut_key, cut_value_lem, cut_decimals, cut_mass, put_in_front}
-use Rattle.held.specs.declared.Seen.{Seen}
 use Rattle.held.specs.Tells.{Tells}
-use Rattle.held.specs.Held.{HeldFrom, PartHeld, PartSeen}
-use Rattle.held.proofs.Joins.{tells_as, tells_itself, tells_both, Joins}
+use Rattle.held.specs.Held.{HeldFrom, PartHeld}
+use Rattle.held.proofs.Joins.{tells_as, tells_both, Joins}
 use Rattle.held.proofs.Places.{at_nil, at_joins, at_cons}
 use Rattle.held.proofs.Upto.{held_joins}
 
 -- ---- row m as part j of bracket k
-module _ {line parts : List ℕ} {masses : List ℤ} {m k j : ℕ} (seen : Seen) (h : RowFits line parts masses m k j seen.texts) (bytes : List ℕ) (numbers : List ℤ) (long : numbers_size ≤ length numbers) where
-  abbrev t : ℕ
-  t = seen.texts
-
+module _ {line parts : List ℕ} {masses : List ℤ} {m k j : ℕ} (t : ℕ) (h : RowFits line parts masses m k j t) (bytes : List ℕ) (numbers : List ℤ) (long : numbers_size ≤ length numbers) where
   abbrev its_label : List ℕ
   its_label = part (label_from_field parts m) (label_length parts m) line
 
@@ -48,6 +44,11 @@ module _ {line parts : List ℕ} {masses : List ℤ} {m k j : ℕ} (seen : Seen)
       let x = texts.back w.texts_at_lem in
       (((w.rows_at_is, x.0), x.1), (mass.back w.masses_at).0))
 
+  -- the bytes of texts behind it, and whether it is held
+  pub record Told (u : ℕ) (r : Bool) : Type 0 where
+    pub texts_are : u ≡ t + (text_length line parts m + label_length parts m)
+    pub decided : Tells r (PartHeld line parts masses m k j t bytes numbers)
+
   -- told by a test of each
   row_seen : {r x y z : Bool} {n value key decimals o : ℕ} {text label : List ℕ} {mass put : ℤ}
       → n ≡ text_length line parts m → label ≡ its_label → o ≡ offset_of (n + length label) t
@@ -55,15 +56,14 @@ module _ {line parts : List ℕ} {masses : List ℤ} {m k j : ℕ} (seen : Seen)
       → Tells r (At bytes (part_at k j) (part_fields value key decimals n (length label) o))
       → text ≡ text_put line parts m → Tells x (At bytes (texts_at + t) text) → Tells y (At bytes (texts_at + t + n) label)
       → mass ≡ mass_field numbers k j → put ≡ mass_put line parts masses m → Tells z (mass ≡ put)
-      → PartSeen line parts masses m k j bytes numbers seen (record { so = seen.so && (((r && x) && y) && z); texts = t + n + length label })
+      → Told (t + n + length label) (((r && x) && y) && z)
   row_seen en el eo ev ek edec r ex x y em ep z =
       let ll = label_long h in
       record {
         texts_are = rw (en, el, ll) (omega arith);
         decided =
-            tells_both (tells_itself seen.so)
-            (part_is
-            (tells_both (tells_both (tells_both (rw (eo, ev, ek, edec, en, el, ll) at r) (rw ex at x)) (rw (en, el) at y)) (rw (em, ep) at z)));
+            part_is
+            (tells_both (tells_both (tells_both (rw (eo, ev, ek, edec, en, el, ll) at r) (rw ex at x)) (rw (en, el) at y)) (rw (em, ep) at z));
       }
 
   -- as it is noted
@@ -75,8 +75,7 @@ module _ {line parts : List ℕ} {masses : List ℤ} {m k j : ℕ} (seen : Seen)
       → Tells x (At bytes (texts_at + t) (part text (to - text) line))
       → Tells y (At bytes (texts_at + t + length (part text (to - text) line)) (part label (ends - label) line))
       → mass ≡ mass_field numbers k j → Tells z (mass ≡ get_or masses m (pos 0))
-      → PartSeen line parts masses m k j bytes numbers seen
-      (record { so = seen.so && (((r && x) && y) && z); texts = t + length (part text (to - text) line) + length (part label (ends - label) line) })
+      → Told (t + length (part text (to - text) line) + length (part label (ends - label) line)) (((r && x) && y) && z)
   noted_seen plain ef et el ee eo ev ek ed r x y em z =
       row_seen (noted_length h plain ef et) (label_is h el ee) eo (noted_value h plain ev) ek (noted_decimals h plain ed) r
       (noted_text h plain ef et) x y em (noted_mass h plain refl) z
@@ -88,7 +87,7 @@ module _ {line parts : List ℕ} {masses : List ℤ} {m k j : ℕ} (seen : Seen)
       → Tells r (At bytes (part_at k j) (part_fields composition_code (key_code Glycan) mass_decimals size (length (part label (ends - label) line)) o))
       → Tells x (At bytes (texts_at + t) (part 0 size area')) → Tells y (At bytes (texts_at + t + size) (part label (ends - label) line))
       → mass ≡ mass_field numbers k j → Tells z (mass ≡ pos weight)
-      → PartSeen line parts masses m k j bytes numbers seen (record { so = seen.so && (((r && x) && y) && z); texts = t + size + length (part label (ends - label) line) })
+      → Told (t + size + length (part label (ends - label) line)) (((r && x) && y) && z)
   cut_seen w el ee short q room eo r x y em z =
       row_seen short.sized (label_is h el ee) eo (cut_value_lem w) (cut_key w) (cut_decimals w) r
       (put_in_front q short.sized (omega (arith, short.few))) x y em (cut_mass w masses short refl) z

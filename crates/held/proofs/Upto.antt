@@ -1,7 +1,6 @@
 -- A loop over the parts of a bracket, or over the brackets: each takes some rows, texts and numbers of the areas, behind those of the ones before it. What the loop has
 -- not come to is left.
 use mathlib.Core.Path.{◌≡◌, refl, sym, ap, subst, ◌∙◌}
-use mathlib.Core.Bool.{Bool, true}
 use mathlib.Core.List.{List, [], ◌∷◌, ◌++◌, append_assoc}
 use Prim.Native.Nat.{ℕ, ◌+◌, ◌≤◌}
 use native.Mathlib.Omega.{arith}
@@ -12,9 +11,8 @@ use Rattle.scope.specs.Lists.{flat}
 use Rattle.scope.specs.Layout.{texts_at}
 use Rattle.basics.specs.Lists.{flat_nil, flat_cons}
 use Rattle.sheet.proofs.FieldLaws.{Among}
-use Rattle.held.specs.Tells.{Tells}
 use Rattle.held.specs.Held.{HeldFrom}
-use Rattle.held.proofs.Joins.{Joins, joins_pair, Left, left_more, left_end}
+use Rattle.held.proofs.Joins.{Joins}
 use Rattle.held.proofs.Places.{at_joins}
 
 -- ---- three pieces, and three behind them
@@ -35,15 +33,15 @@ held_joins bytes numbers row t number row' t' number' a b c a' b' c' e f g =
     }
 
 -- ---- the loop: H i t xs is held of these from i on, their texts behind t others, and each has texts
-pub record HeldUpto {X : Type 0} (H : ℕ → ℕ → List X → Type 0) (T : X → List ℕ) (t : ℕ) (xs : List X) (first : Bool) (i u : ℕ) (so : Bool) : Type 0 where
+pub record HeldUpto {X : Type 0} (H : ℕ → ℕ → List X → Type 0) (T : X → List ℕ) (t : ℕ) (xs : List X) (i u : ℕ) : Type 0 where
   pub texts_left : u + length (flat T (drop i xs)) ≡ t + length (flat T xs)
-  pub left : Left so (H i u (drop i xs)) ((first ≡ true) × H 0 t xs)
+  pub left : (H i u (drop i xs) → H 0 t xs) × (H 0 t xs → H i u (drop i xs))
 
-module _ {X : Type 0} {H : ℕ → ℕ → List X → Type 0} {T : X → List ℕ} {t : ℕ} {xs : List X} {first : Bool} where
-  pub upto_start : HeldUpto H T t xs first 0 t first
-  upto_start = record { texts_left = refl; left = joins_pair }
+module _ {X : Type 0} {H : ℕ → ℕ → List X → Type 0} {T : X → List ℕ} {t : ℕ} {xs : List X} where
+  pub upto_start : HeldUpto H T t xs 0 t
+  upto_start = record { texts_left = refl; left = (λ h. h, λ h. h) }
 
-  module _ {i u : ℕ} {so : Bool} (w : HeldUpto H T t xs first i u so) where
+  module _ {i u : ℕ} (w : HeldUpto H T t xs i u) where
     module _ (x : Among xs i) where
       this_left : drop i xs ≡ x.this ∷ x.behind
       this_left = ap (drop i) x.is ∙ drop_at x.before (x.this ∷ x.behind) i (sym x.place)
@@ -60,18 +58,23 @@ module _ {X : Type 0} {H : ℕ → ℕ → List X → Type 0} {T : X → List �
           (sym (length-append (T x.this) (flat T x.behind)) ∙ ap length (sym (flat_cons T x.this x.behind)) ∙ ap (λ l. length (flat T l)) (sym this_left))
           ∙ w.texts_left
 
+      here : (H i u (x.this ∷ x.behind) → H 0 t xs) × (H 0 t xs → H i u (x.this ∷ x.behind))
+      here = subst (λ l. (H i u l → H 0 t xs) × (H 0 t xs → H i u l)) this_left w.left
+
       pub upto_room : u + length (T x.this) ≤ t + length (flat T xs)
       upto_room = omega (arith, texts_long)
 
-      pub upto_next : {P : Type 0} {v : ℕ} {r : Bool} → v ≡ u + length (T x.this) → Joins P (H (i + 1) v x.behind) (H i u (x.this ∷ x.behind))
-          → Tells r ((so ≡ true) × P) → HeldUpto H T t xs first (i + 1) v r
-      upto_next {v = v} {r = r} e joins told =
+      pub upto_next : {P : Type 0} {v : ℕ} → v ≡ u + length (T x.this) → Joins P (H (i + 1) v x.behind) (H i u (x.this ∷ x.behind)) → P → HeldUpto H T t xs (i + 1) v
+      upto_next {v = v} e joins p =
           record {
             texts_left = ap (λ l. v + length (flat T l)) rest_left ∙ omega (arith, texts_long);
             left =
-                subst (λ l. Left r (H (i + 1) v l) ((first ≡ true) × H 0 t xs)) (sym rest_left)
-                (left_more (subst (λ l. Left so (H i u l) ((first ≡ true) × H 0 t xs)) this_left w.left) joins told);
+                subst (λ l. (H (i + 1) v l → H 0 t xs) × (H 0 t xs → H (i + 1) v l)) (sym rest_left) (λ h. here.0 (joins.on p h), λ z. (joins.back (here.1 z)).1);
           }
+
+      -- one that is not held
+      pub upto_stops : {P Q : Type 0} → Joins P Q (H i u (x.this ∷ x.behind)) → (P → ⊥) → H 0 t xs → ⊥
+      upto_stops joins not_this z = not_this (joins.back (here.1 z)).0
 
     module _ (all : i ≡ length xs) where
       none_left : drop i xs ≡ []
@@ -80,5 +83,5 @@ module _ {X : Type 0} {H : ℕ → ℕ → List X → Type 0} {T : X → List �
       pub upto_texts : u ≡ t + length (flat T xs)
       upto_texts = omega (arith, w.texts_left, ap (λ l. length (flat T l)) none_left, ap length (flat_nil T))
 
-      pub upto_end : H i u [] → Tells so ((first ≡ true) × H 0 t xs)
-      upto_end h = left_end w.left (subst (H i u) (sym none_left) h)
+      pub upto_end : H i u [] → H 0 t xs
+      upto_end h = w.left.0 (subst (H i u) (sym none_left) h)

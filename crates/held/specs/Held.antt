@@ -1,14 +1,12 @@
 -- What of the sheet the areas hold, piece by piece: in front of the rows, a part, a bracket with and without its parts, and zeros behind all.
-use Rattle.std.specs.Prelude.{◌≡◌, true, List, [], ◌∷◌, ℕ, ◌+◌, ◌-◌, ◌*◌, ◌<◌, ◌≤◌, ℤ, pos, length, get_or, replicate}
+use Rattle.std.specs.Prelude.{◌≡◌, Option, Some, None, List, [], ◌∷◌, ℕ, ◌+◌, ◌-◌, ◌*◌, ◌<◌, ◌≤◌, ℤ, pos, length, get_or, replicate}
 use Rattle.scope.specs.Limits.{line_limit, residue_limit, bracket_limit, part_limit}
 use Rattle.scope.specs.Line.{Bracket}
 use Rattle.scope.specs.Lists.{padded}
 use Rattle.scope.specs.Layout.{part_size, row_size, number_row_size, residues_at, letters_at, sections_at, texts_at, row_at, part_at, mass_at, bracket_row, bracket_texts, number_row, score_number}
-use Rattle.held.specs.Tells.{Tells}
 use Rattle.layout_laws.specs.At.{At}
 use Rattle.store.specs.PartPut.{text_length, label_length, texts_from, row_from, mass_put}
 use Rattle.store.specs.BracketPut.{head_from, BracketNoted}
-use Rattle.held.specs.declared.Seen.{Seen}
 
 -- ---- in front of the rows: the numbers of residues and brackets, then letters and sections
 pub record FrontHeld (counts letters sections : List ℕ) (bytes : List ℕ) : Type 0 where
@@ -27,9 +25,13 @@ abbrev pub PartHeld : List ℕ → List ℕ → List ℤ → ℕ → ℕ → ℕ
 PartHeld line parts masses m k j t bytes numbers =
     HeldFrom bytes numbers (part_at k j) t (mass_at k j) (row_from line parts m t) (texts_from line parts m) (mass_put line parts masses m ∷ [])
 
-pub record PartSeen (line parts : List ℕ) (masses : List ℤ) (m k j : ℕ) (bytes : List ℕ) (numbers : List ℤ) (seen r : Seen) : Type 0 where
-  pub texts_are : r.texts ≡ seen.texts + (text_length line parts m + label_length parts m)
-  pub decided : Tells r.so ((seen.so ≡ true) × PartHeld line parts masses m k j seen.texts bytes numbers)
+-- how many bytes of texts there are then, where it is held
+abbrev pub Gives : Option ℕ → ℕ → Type 0 → Type 0
+Gives None n A = A → ⊥
+Gives (Some u) n A = (u ≡ n) × A
+
+abbrev pub PartSeen : List ℕ → List ℕ → List ℤ → ℕ → ℕ → ℕ → ℕ → List ℕ → List ℤ → Option ℕ → Type 0
+PartSeen line parts masses m k j t bytes numbers r = Gives r (t + (text_length line parts m + label_length parts m)) (PartHeld line parts masses m k j t bytes numbers)
 
 -- ---- what bracket k has beside its n parts
 pub record FrameHeld (heads : List ℕ) (scores : List ℤ) (k n : ℕ) (bytes : List ℕ) (numbers : List ℤ) : Type 0 where
@@ -49,9 +51,8 @@ pub record BracketThere (line heads parts : List ℕ) (masses scores : List ℤ)
 abbrev pub BracketHeld : ℕ → ℕ → Bracket ℕ → List ℕ → List ℤ → Type 0
 BracketHeld k t b bytes numbers = HeldFrom bytes numbers (row_at k) t (mass_at k 0) (bracket_row t b) (bracket_texts b) (number_row b)
 
-pub record BracketSeen (k : ℕ) (b : Bracket ℕ) (bytes : List ℕ) (numbers : List ℤ) (seen r : Seen) : Type 0 where
-  pub texts_are : r.texts ≡ seen.texts + length (bracket_texts b)
-  pub decided : Tells r.so ((seen.so ≡ true) × BracketHeld k seen.texts b bytes numbers)
+abbrev pub BracketSeen : ℕ → ℕ → Bracket ℕ → List ℕ → List ℤ → Option ℕ → Type 0
+BracketSeen k t b bytes numbers r = Gives r (t + length (bracket_texts b)) (BracketHeld k t b bytes numbers)
 
 -- ---- zeros behind n brackets and t bytes of texts
 abbrev pub RestHeld : ℕ → ℕ → List ℕ → List ℤ → Type 0

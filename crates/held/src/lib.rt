@@ -22,14 +22,8 @@ use glycans::Cutting;
 use scope::tables::Tables;
 use sheet::Sheet;
 
-// What was looked at so far: whether all of it is held, and how many bytes of texts it has.
-#[derive(Drop)]
-struct Seen {
-    so: bool,
-    texts: usize,
-}
-
 // ---- pieces
+// Answers are joined by `&`: behind `&&` a proof loses what each call told, since the call may be left out (`returns` of `head_held` stays open).
 
 // Do these bytes stand at a place?
 fn stands(text: &[u8], bytes: &Bytes, at: usize) -> bool
@@ -134,7 +128,7 @@ fn fields_held(
         & (areas::offset(bytes, k, j) == offset)
 }
 
-// Row m as part j of bracket k: its fields, its text and its label behind the texts seen, and its mass.
+// Row m as part j of bracket k: its fields, its text and its label behind t bytes of texts, and its mass. How many bytes of texts there are then, where all of it is held.
 fn part_held(
     line: &[u8],
     sheet: &Sheet,
@@ -143,15 +137,15 @@ fn part_held(
     j: usize,
     bytes: &Bytes,
     numbers: &Numbers,
-    seen: Seen,
-) -> Seen
-    requires { RowFits line.now sheet.now.parts sheet.now.masses m k j seen.texts }
-    ensures { PartSeen line.now sheet.now.parts sheet.now.masses m k j bytes.now numbers.now seen result }
+    t: usize,
+) -> Option<usize>
+    requires { RowFits line.now sheet.now.parts sheet.now.masses m k j t }
+    ensures { PartSeen line.now sheet.now.parts sheet.now.masses m k j t bytes.now numbers.now result }
 {
     if store::is_composition(sheet, m) {
-        composition_held(line, sheet, m, k, j, bytes, numbers, seen)
+        composition_held(line, sheet, m, k, j, bytes, numbers, t)
     } else {
-        noted_held(line, sheet, m, k, j, bytes, numbers, seen)
+        noted_held(line, sheet, m, k, j, bytes, numbers, t)
     }
 }
 
@@ -164,12 +158,11 @@ fn composition_held(
     j: usize,
     bytes: &Bytes,
     numbers: &Numbers,
-    seen: Seen,
-) -> Seen
-    requires { ComposedFits line.now sheet.now.parts sheet.now.masses m k j seen.texts }
-    ensures { PartSeen line.now sheet.now.parts sheet.now.masses m k j bytes.now numbers.now seen result }
+    t: usize,
+) -> Option<usize>
+    requires { ComposedFits line.now sheet.now.parts sheet.now.masses m k j t }
+    ensures { PartSeen line.now sheet.now.parts sheet.now.masses m k j t bytes.now numbers.now result }
 {
-    let t = seen.texts;
     let label = &line[sheet.label_from(m)..sheet.label_to(m)];
     let l = label.len();
     let c = store::composition(line, sheet, m);
@@ -190,10 +183,7 @@ fn composition_held(
     ) & stands(&short[..n], bytes, Tables::TEXTS + t)
         & stands(label, bytes, Tables::TEXTS + t + n)
         & is_mass(c.mass, areas::mass(numbers, k, j));
-    Seen {
-        so: seen.so & so,
-        texts: t + n + l,
-    }
+    if so { Some(t + n + l) } else { None }
 }
 
 // The same of any other part: as it is noted.
@@ -205,12 +195,11 @@ fn noted_held(
     j: usize,
     bytes: &Bytes,
     numbers: &Numbers,
-    seen: Seen,
-) -> Seen
-    requires { NotedFits line.now sheet.now.parts sheet.now.masses m k j seen.texts }
-    ensures { PartSeen line.now sheet.now.parts sheet.now.masses m k j bytes.now numbers.now seen result }
+    t: usize,
+) -> Option<usize>
+    requires { NotedFits line.now sheet.now.parts sheet.now.masses m k j t }
+    ensures { PartSeen line.now sheet.now.parts sheet.now.masses m k j t bytes.now numbers.now result }
 {
-    let t = seen.texts;
     let text = &line[sheet.text_from(m)..sheet.text_to(m)];
     let n = text.len();
     let label = &line[sheet.label_from(m)..sheet.label_to(m)];
@@ -223,10 +212,7 @@ fn noted_held(
         & stands(text, bytes, Tables::TEXTS + t)
         & stands(label, bytes, Tables::TEXTS + t + n)
         & is_noted(sheet, m, areas::mass(numbers, k, j));
-    Seen {
-        so: seen.so & so,
-        texts: t + n + l,
-    }
+    if so { Some(t + n + l) } else { None }
 }
 
 // ---- a bracket
@@ -283,31 +269,31 @@ fn places_held(line: &[u8], at: usize, n: usize, k: usize, bytes: &Bytes) -> boo
         & zero_bytes(bytes, behind, Tables::PLACES - n)
 }
 
-// Bracket k: what it has beside its parts, and each part.
+// Bracket k: what it has beside its parts, and each part. How many bytes of texts there are then, where all of it is held.
 fn bracket_held(
     line: &[u8],
     sheet: &Sheet,
     k: usize,
     bytes: &Bytes,
     numbers: &Numbers,
-    seen: Seen,
-) -> Seen
-    requires { (b : Bracket ℕ) × BracketThere line.now sheet.now.heads sheet.now.parts sheet.now.masses sheet.now.scores k seen.texts b }
-    ensures { (b : Bracket ℕ) → BracketThere line.now sheet.now.heads sheet.now.parts sheet.now.masses sheet.now.scores k seen.texts b → BracketSeen k b bytes.now numbers.now seen result }
+    t: usize,
+) -> Option<usize>
+    requires { (b : Bracket ℕ) × BracketThere line.now sheet.now.heads sheet.now.parts sheet.now.masses sheet.now.scores k t b }
+    ensures { (b : Bracket ℕ) → BracketThere line.now sheet.now.heads sheet.now.parts sheet.now.masses sheet.now.scores k t b → BracketSeen k t b bytes.now numbers.now result }
 {
     let m = sheet.base_of(k);
     let n = sheet.parts_of(k);
     let at = sheet.places_of(k);
     let many = sheet.many_of(k);
     let so = frame_held(sheet, k, n, bytes, numbers) & places_held(line, at, many, k, bytes);
-    let mut upto = Seen {
-        so: seen.so & so,
-        texts: seen.texts,
-    };
-    for j in 0..n {
-        upto = part_held(line, sheet, m + j, k, j, bytes, numbers, upto);
+    if !so {
+        return None;
     }
-    upto
+    let mut u = t;
+    for j in 0..n {
+        u = part_held(line, sheet, m + j, k, j, bytes, numbers, u)?;
+    }
+    Some(u)
 }
 
 // ---- a line
@@ -335,12 +321,15 @@ pub fn holds(
     requires { (l : Line ℕ) × LineNoted line.now sheet.now residues brackets l }
     ensures { result ≡ reads_to (outcome line.now) (take bytes_size bytes.now) (take numbers_size numbers.now) }
 {
-    let mut seen = Seen {
-        so: front_held(sheet, residues, brackets, bytes),
-        texts: 0,
-    };
-    for k in 0..brackets {
-        seen = bracket_held(line, sheet, k, bytes, numbers, seen);
+    if !front_held(sheet, residues, brackets, bytes) {
+        return false;
     }
-    seen.so & rest_held(brackets, seen.texts, bytes, numbers)
+    let mut t: usize = 0;
+    for k in 0..brackets {
+        let Some(u) = bracket_held(line, sheet, k, bytes, numbers, t) else {
+            return false;
+        };
+        t = u;
+    }
+    rest_held(brackets, t, bytes, numbers)
 }

@@ -7,6 +7,7 @@ use native.Mathlib.Omega.{arith}
 use lib.IntN.{ℤ}
 use lib.ListN.{length, take, length-append}
 use lib.Seq.{take-add, take_all, length-take-le}
+use Rattle.std.specs.Prelude.{Option, Some, None}
 use Rattle.chunks.specs.Feeding.{Between, holding, after, put, part}
 use Rattle.chunks.specs.Laws.{after_append, put_append}
 use Rattle.chunks.specs.Lent.{output_limit, Ready}
@@ -26,8 +27,31 @@ pub owed : {chunk : List ℕ} {from number refused : ℕ} {hold : List ℕ} {hel
 owed {chunk} {from} {number} {refused} {next = next} f =
     record { fits = f.puts.fits; text = f.puts.front ∙ ap (λ z. put (holding number refused z) (part from next chunk)) (sym f.stays) }
 
+-- there is more to do, or reading ended; and no other way of ending is the whole one
+abbrev is_over : Option End → Bool
+is_over None = false
+is_over (Some e) = true
+
+abbrev is_whole : Option End → Bool
+is_whole None = false
+is_whole (Some Whole) = true
+is_whole (Some Unread) = false
+is_whole (Some Unwritten) = false
+
+pub over : {e : End} → Some e ≡ None → ⊥
+over q = false≢true (sym (ap is_over q))
+
+unended : None ≡ Some Whole → ⊥
+unended q = false≢true (ap is_whole q)
+
+pub unread : Some Unread ≡ Some Whole → ⊥
+unread q = false≢true (ap is_whole q)
+
+unwritten : Some Unwritten ≡ Some Whole → ⊥
+unwritten q = false≢true (ap is_whole q)
+
 -- ---- a whole chunk: it is taken in up to `from`, and what is put out for that was taken
-module _ (chunk : List ℕ) (number refused : ℕ) (hold₀ : List ℕ) (held : ℕ) (bytes₀ : List ℕ) (numbers₀ : List ℤ) (out₀ : List ℕ) where
+module _ (chunk : List ℕ) (number refused : ℕ) (hold₀ : List ℕ) (held : ℕ) (out₀ : List ℕ) where
   abbrev begun : Between
   begun = holding number refused (take held hold₀)
 
@@ -40,11 +64,9 @@ module _ (chunk : List ℕ) (number refused : ℕ) (hold₀ : List ℕ) (held : 
     pub low : sent ≤ from * output_limit
     pub ready : Ready hold n bytes numbers out
     pub hold_long : length hold ≡ length hold₀
-    pub bytes_long : length bytes ≡ length bytes₀
-    pub numbers_long : length numbers ≡ length numbers₀
     pub out_long : length out ≡ length out₀
 
-  pub taken_start : Ready hold₀ held bytes₀ numbers₀ out₀ → ChunkTaken 0 number refused held 0 hold₀ bytes₀ numbers₀ out₀
+  pub taken_start : {bytes : List ℕ} {numbers : List ℤ} → Ready hold₀ held bytes numbers out₀ → ChunkTaken 0 number refused held 0 hold₀ bytes numbers out₀
   unfolding after put
   taken_start w =
       record {
@@ -56,17 +78,15 @@ module _ (chunk : List ℕ) (number refused : ℕ) (hold₀ : List ℕ) (held : 
         low = omega arith;
         ready = w;
         hold_long = refl;
-        bytes_long = refl;
-        numbers_long = refl;
         out_long = refl;
       }
 
   pub taken_more : {from line total n sent : ℕ} {hold : List ℕ} {bytes : List ℕ} {numbers : List ℤ} {out : List ℕ} {next line' total' n' : ℕ}
       → {hold' : List ℕ} {bytes' : List ℕ} {numbers' : List ℤ} {out' : List ℕ} {m took : ℕ}
       → ChunkTaken from line total n sent hold bytes numbers out → from < length chunk → Feeds chunk from line total hold n out next line' total' hold' n' out' m
-      → Ready hold' n' bytes' numbers' out' → took ≤ m → m ≤ took → length bytes' ≡ length bytes
-      → length numbers' ≡ length numbers → length out' ≡ length out → ChunkTaken next line' total' n' (sent + took) hold' bytes' numbers' out'
-  taken_more {from} {line} {total} {n} {sent} {hold} {next = next} {m = m} w l f r a z b u o =
+      → Ready hold' n' bytes' numbers' out' → took ≤ m → m ≤ took → length out' ≡ length out
+      → ChunkTaken next line' total' n' (sent + took) hold' bytes' numbers' out'
+  taken_more {from} {line} {total} {n} {sent} {hold} {next = next} {m = m} w l f r a z o =
       let go = f.goes l in
       let s = holding line total (take n hold) in
       let e : next ≡ from + (next - from) = omega arith in
@@ -83,13 +103,11 @@ module _ (chunk : List ℕ) (number refused : ℕ) (hold₀ : List ℕ) (held : 
         low = omega (arith, w.low, f.puts.fits, r.narrow);
         ready = r;
         hold_long = r.room ∙ sym w.ready.room ∙ w.hold_long;
-        bytes_long = b ∙ w.bytes_long;
-        numbers_long = u ∙ w.numbers_long;
         out_long = o ∙ w.out_long;
       }
 
   pub taken_all : {from line total n sent : ℕ} {hold : List ℕ} {bytes : List ℕ} {numbers : List ℤ} {out : List ℕ} → ChunkTaken from line total n sent hold bytes numbers out
-      → length chunk ≤ from → Drains chunk number refused hold₀ held line total hold n sent true Whole × Ready hold n bytes numbers out
+      → length chunk ≤ from → Drains chunk number refused hold₀ held line total hold n sent None × Ready hold n bytes numbers out
   taken_all {from} w l =
       let all = sym (take_all from chunk l) in (
         record {
@@ -97,22 +115,10 @@ module _ (chunk : List ℕ) (number refused : ℕ) (hold₀ : List ℕ) (held : 
           count = λ _. omega (arith, w.count, w.inside);
           leaves = λ _. ap (after begun) all ∙ w.leaves;
           taken = λ _. w.given ∙ ap (λ y. length (put begun y)) (sym all);
-          lost = λ e _. absurd (false≢true (sym e));
+          lost = unended;
         },
         w.ready,
       )
-
--- no other way of ending is the whole one
-abbrev is_whole : End → Bool
-is_whole Whole = true
-is_whole Unread = false
-is_whole Unwritten = false
-
-pub unread : Unread ≡ Whole → ⊥
-unread e = false≢true (ap is_whole e)
-
-unwritten : Unwritten ≡ Whole → ⊥
-unwritten e = false≢true (ap is_whole e)
 
 -- a write failed
 pub stays_ready : {hold : List ℕ} {held : ℕ} {bytes : List ℕ} {numbers : List ℤ} {out hold' : List ℕ} {held' : ℕ} {bytes' : List ℕ} {numbers' : List ℤ} {out' : List ℕ}
@@ -120,12 +126,12 @@ pub stays_ready : {hold : List ℕ} {held : ℕ} {bytes : List ℕ} {numbers : L
 stays_ready w r = record { room = r.room; within = w.within; clean = r.clean; wide = r.wide; narrow = r.narrow }
 
 pub drains_lost : {chunk : List ℕ} {number refused : ℕ} {hold : List ℕ} {held line total : ℕ} (ends : ℕ) {holds : List ℕ} {n sent : ℕ} → number ≤ line
-    → Drains chunk number refused hold held (line + ends) total holds n sent false Unwritten
+    → Drains chunk number refused hold held (line + ends) total holds n sent (Some Unwritten)
 drains_lost ends h =
     record {
       grows = omega arith;
-      count = λ e. absurd (false≢true e);
-      leaves = λ e. absurd (false≢true e);
-      taken = λ e. absurd (false≢true e);
-      lost = λ _ e. unwritten e;
+      count = λ e. absurd (over e);
+      leaves = λ e. absurd (over e);
+      taken = λ e. absurd (over e);
+      lost = unwritten;
     }

@@ -42,14 +42,14 @@ counted_more {text} {i} {ends} {one} w l e =
 
 -- words, a number and the end of the line, one behind the other
 pub notice_fronts : (words : List ℕ) (number : ℕ) (out : List ℕ) {one two left : List ℕ} {a r : ℕ} → length words + notice_room ≤ length out
-    → one ≡ take (length words) words ++ drop (length words) out → Puts decimal_most one (length words) (decimal number) two a → Puts 1 two a (line_end ∷ []) left r
+    → one ≡ words ++ drop (length words) out → Puts decimal_most one (length words) (decimal number) two a → Puts 1 two a (line_end ∷ []) left r
     → length left ≡ length out → Fronts (noticed words number) out left r
 notice_fronts words number out {one} {two} {left} {a} {r} h e p q l =
     let d = decimal number in
     let n = length words in
     let from_front : n ≡ 0 + n = omega arith in
     let begins : one ≡ stored out 0 words =
-    e ∙ ap (λ z. z ++ drop n out) (take_all n words (omega arith) ∙ sym (take_all (length out) words (omega arith))) ∙ sym (stored_whole out words) in
+    e ∙ ap (λ z. z ++ drop n out) (sym (take_all (length out) words (omega arith))) ∙ sym (stored_whole out words) in
     let text : left ≡ stored out 0 (words ++ (d ++ (line_end ∷ []))) =
     q.holds ∙ ap (λ z. stored z a (line_end ∷ [])) (p.holds ∙ ap (λ z. stored z n d) begins) ∙ ap (λ z. stored (stored (stored out 0 words) n d) z (line_end ∷ [])) p.ends
     ∙ sym (stored_append (stored out 0 words) n d (line_end ∷ [])) ∙ ap (λ z. stored (stored out 0 words) z (d ++ (line_end ∷ []))) from_front

@@ -1,24 +1,21 @@
 -- Laws of turn upon turn: one read, the loop over them, and the arrays of zeros that it starts with.
-use mathlib.Core.Path.{◌≡◌, refl, sym, ◌∙◌, subst}
-use mathlib.Core.Bool.{Bool, true, false, false≢true}
+use mathlib.Core.Path.{◌≡◌, refl, ◌∙◌, subst}
 use mathlib.Core.List.{List}
-use Prim.Native.Nat.{ℕ, ◌+◌, ◌-◌, ◌*◌, ◌<◌, ◌≤◌}
+use Prim.Native.Nat.{ℕ, ◌+◌, ◌*◌, ◌<◌, ◌≤◌}
 use native.Mathlib.Omega.{arith}
 use lib.IntN.{ℤ, pos}
 use lib.ListN.{length, take, replicate, length-take, length-replicate}
 use lib.Seq.{take_all, length-take-le}
-use Rattle.scope.specs.Limits.{residue_limit, bracket_limit}
 use Rattle.scope.specs.Layout.{bytes_size, numbers_size}
-use Rattle.sheet.specs.Rows.{heads_room, parts_room, masses_room}
 use Rattle.entries.specs.Entry.{entry_limit}
 use Rattle.chunks.specs.Feeding.{hold_limit}
-use Rattle.chunks.specs.Lent.{number_limit, output_limit, Ready}
+use Rattle.chunks.specs.Lent.{output_limit, Ready}
 use Rattle.chunks.proofs.Putting.{stays_few}
 use Rattle.stream.specs.declared.End.{End}
 use Rattle.stream.specs.declared.End.TheVariants.{Unread}
-use Rattle.std.specs.Prelude.{Option, Some}
+use Rattle.std.specs.Prelude.{Option, Some, None}
 use Rattle.stream.specs.Turns.{read_limit, Received, Drains, ClosesAt, Turns}
-use Rattle.stream.proofs.Handing.{unread}
+use Rattle.stream.proofs.Handing.{over, unread}
 
 -- ---- one read
 pub came_fits : {room room' n : ℕ} {g : Option ℕ} → g ≡ Some n → Received room g → room' ≡ room → n ≤ room'
@@ -27,9 +24,9 @@ came_fits {room} {room'} {n} e r l = let h : n ≤ room = subst (Received room) 
 pub front_fits : (n : ℕ) (l : List ℕ) → length l ≤ read_limit → length (take n l) ≤ read_limit
 front_fits n l h = omega (arith, length-take n l)
 
-module _ {room : List ℕ} {number refused : ℕ} {hold : List ℕ} {held line total : ℕ} {holds : List ℕ} {n : ℕ} {bytes : List ℕ} {numbers : List ℤ} {out : List ℕ} {sent : ℕ} {more : Bool} {end : End} where
-  pub turns_chunk : (got : ℕ) → got ≤ length room → length room ≤ read_limit → Drains (take got room) number refused hold held line total holds n sent more end
-      → Ready holds n bytes numbers out → Turns room number refused hold held line total holds n bytes numbers out sent more end
+module _ {room : List ℕ} {number refused : ℕ} {hold : List ℕ} {held line total : ℕ} {holds : List ℕ} {n : ℕ} {bytes : List ℕ} {numbers : List ℤ} {out : List ℕ} {sent : ℕ} {end : Option End} where
+  pub turns_chunk : (got : ℕ) → got ≤ length room → length room ≤ read_limit → Drains (take got room) number refused hold held line total holds n sent end
+      → Ready holds n bytes numbers out → Turns room number refused hold held line total holds n bytes numbers out sent end
   turns_chunk got h k d r =
       record {
         grows = d.grows;
@@ -38,61 +35,59 @@ module _ {room : List ℕ} {number refused : ℕ} {hold : List ℕ} {held line t
         got = got;
         leaves = d.leaves;
         taken = d.taken;
-        closed = λ e f. absurd (d.lost e f);
-        counted = λ e f. absurd (d.lost e f);
+        closed = λ e. absurd (d.lost e);
+        counted = λ e. absurd (d.lost e);
       }
 
-  pub turns_closed : ClosesAt number refused hold held line total sent more end → Turns room number refused hold held line total holds n bytes numbers out sent more end
+  pub turns_closed : ClosesAt number refused hold held line total sent end → Turns room number refused hold held line total holds n bytes numbers out sent end
   turns_closed c =
       record {
         grows = omega (arith, c.same);
-        count = λ e. absurd (false≢true (sym c.over ∙ e));
-        ready = λ e. absurd (false≢true (sym c.over ∙ e));
+        count = λ e. absurd (c.over e);
+        ready = λ e. absurd (c.over e);
         got = 0;
-        leaves = λ e. absurd (false≢true (sym c.over ∙ e));
-        taken = λ e. absurd (false≢true (sym c.over ∙ e));
-        closed = λ _ f. c.taken f;
-        counted = λ _ f. c.counted f;
+        leaves = λ e. absurd (c.over e);
+        taken = λ e. absurd (c.over e);
+        closed = c.taken;
+        counted = c.counted;
       }
 
 pub turns_failed : {room : List ℕ} {number refused : ℕ} {hold : List ℕ} {held total : ℕ} {holds : List ℕ} {n : ℕ} {bytes : List ℕ} {numbers : List ℤ} {out : List ℕ} {sent : ℕ}
-    → Turns room number refused hold held number total holds n bytes numbers out sent false Unread
+    → Turns room number refused hold held number total holds n bytes numbers out sent (Some Unread)
 turns_failed =
     record {
       grows = omega arith;
-      count = λ e. absurd (false≢true e);
-      ready = λ e. absurd (false≢true e);
+      count = λ e. absurd (over e);
+      ready = λ e. absurd (over e);
       got = 0;
-      leaves = λ e. absurd (false≢true e);
-      taken = λ e. absurd (false≢true e);
-      closed = λ _ f. absurd (unread f);
-      counted = λ _ f. absurd (unread f);
+      leaves = λ e. absurd (over e);
+      taken = λ e. absurd (over e);
+      closed = λ e. absurd (unread e);
+      counted = λ e. absurd (unread e);
     }
 
--- ---- turn upon turn: as many lines are still to be numbered as reads can bring
-module _ (room₀ hold₀ : List ℕ) (bytes₀ : List ℕ) (numbers₀ : List ℤ) (out₀ : List ℕ) where
+-- ---- turn upon turn: no more lines are numbered than reads have brought
+module _ (room₀ hold₀ out₀ : List ℕ) where
   pub record Serves (room hold : List ℕ) (bytes : List ℕ) (numbers : List ℤ) (out : List ℕ) (number refused held turns : ℕ) : Type 0 where
     pub room_fits : length room ≤ read_limit
     pub few : refused < number
-    pub count : number + read_limit * turns + output_limit ≤ number_limit
+    pub count : number ≤ 1 + read_limit * turns
     pub ready : Ready hold held bytes numbers out
     pub room_long : length room ≡ length room₀
     pub hold_long : length hold ≡ length hold₀
-    pub bytes_long : length bytes ≡ length bytes₀
-    pub numbers_long : length numbers ≡ length numbers₀
     pub out_long : length out ≡ length out₀
 
-  pub serves_start : {turns : ℕ} → length room₀ ≤ read_limit → 1 + read_limit * turns + output_limit ≤ number_limit → Ready hold₀ 0 bytes₀ numbers₀ out₀
-      → Serves room₀ hold₀ bytes₀ numbers₀ out₀ 1 0 0 turns
-  serves_start l n w =
-      record { room_fits = l; few = omega arith; count = n; ready = w; room_long = refl; hold_long = refl; bytes_long = refl; numbers_long = refl; out_long = refl }
+  pub serves_start : {bytes : List ℕ} {numbers : List ℤ} → length room₀ ≤ read_limit → Ready hold₀ 0 bytes numbers out₀
+      → Serves room₀ hold₀ bytes numbers out₀ 1 0 0 0
+  serves_start l w =
+      record { room_fits = l; few = omega arith; count = omega arith; ready = w; room_long = refl; hold_long = refl; out_long = refl }
 
   pub serves_more : {room hold : List ℕ} {bytes : List ℕ} {numbers : List ℤ} {out : List ℕ} {number refused held turns : ℕ}
-      → {room' hold' : List ℕ} {bytes' : List ℕ} {numbers' : List ℤ} {out' : List ℕ} {line total n sent : ℕ} {more : Bool} {end : End}
-      → Serves room hold bytes numbers out number refused held turns → 0 < turns → Turns room' number refused hold held line total hold' n bytes' numbers' out' sent more end
-      → more ≡ true → length room' ≡ length room → length hold' ≡ length hold → length bytes' ≡ length bytes
-      → length numbers' ≡ length numbers → length out' ≡ length out → Serves room' hold' bytes' numbers' out' line total n (turns - 1)
-  serves_more w l t e r h b u o =
+      → {room' hold' : List ℕ} {bytes' : List ℕ} {numbers' : List ℤ} {out' : List ℕ} {line total n sent : ℕ} {end : Option End}
+      → Serves room hold bytes numbers out number refused held turns → Turns room' number refused hold held line total hold' n bytes' numbers' out' sent end
+      → end ≡ None → length room' ≡ length room → length hold' ≡ length hold → length out' ≡ length out
+      → Serves room' hold' bytes' numbers' out' line total n (turns + 1)
+  serves_more w t e r h o =
       record {
         room_fits = omega (arith, w.room_fits);
         few = stays_few _ _ (t.leaves e) w.few;
@@ -100,8 +95,6 @@ module _ (room₀ hold₀ : List ℕ) (bytes₀ : List ℕ) (numbers₀ : List �
         ready = t.ready e;
         room_long = r ∙ w.room_long;
         hold_long = h ∙ w.hold_long;
-        bytes_long = b ∙ w.bytes_long;
-        numbers_long = u ∙ w.numbers_long;
         out_long = o ∙ w.out_long;
       }
 

@@ -1,5 +1,5 @@
 -- One read, and what comes of it: a whole chunk taken in, the end of the input, or a failure.
-use Rattle.std.specs.Prelude.{◌≡◌, Bool, true, false, List, Option, Some, None, ℕ, ◌+◌, ◌<◌, ◌≤◌, ℤ, length, take}
+use Rattle.std.specs.Prelude.{◌≡◌, List, Option, Some, None, ℕ, ◌+◌, ◌<◌, ◌≤◌, ℤ, length, take}
 use Rattle.std.specs.Io.KnownBytes.{Consumes, IsAtEnd, Keeps}
 use Rattle.chunks.specs.Feeding.{holding, after, put, finished, refused_at_end}
 use Rattle.chunks.specs.Lent.{Ready}
@@ -21,28 +21,28 @@ Brought old new room (Some n) = Consumes old new (take n room) × (n ≡ 0 → 0
 Brought old new room None = Keeps old new
 
 -- a whole chunk is taken in, and all that is put out for it was taken; unless a write failed
-pub record Drains (chunk : List ℕ) (number refused : ℕ) (hold : List ℕ) (held line total : ℕ) (holds : List ℕ) (n sent : ℕ) (more : Bool) (end : End) : Type 0 where
+pub record Drains (chunk : List ℕ) (number refused : ℕ) (hold : List ℕ) (held line total : ℕ) (holds : List ℕ) (n sent : ℕ) (end : Option End) : Type 0 where
   pub grows : number ≤ line
-  pub count : more ≡ true → line ≤ number + length chunk
-  pub leaves : more ≡ true → after (holding number refused (take held hold)) chunk ≡ holding line total (take n holds)
-  pub taken : more ≡ true → sent ≡ length (put (holding number refused (take held hold)) chunk)
-  pub lost : more ≡ false → end ≡ Whole → ⊥
+  pub count : end ≡ None → line ≤ number + length chunk
+  pub leaves : end ≡ None → after (holding number refused (take held hold)) chunk ≡ holding line total (take n holds)
+  pub taken : end ≡ None → sent ≡ length (put (holding number refused (take held hold)) chunk)
+  pub lost : end ≡ Some Whole → ⊥
 
 -- the input is at its end, all that is put out then was taken, and the refused lines are counted; unless a write failed
-pub record ClosesAt (number refused : ℕ) (hold : List ℕ) (held line total sent : ℕ) (more : Bool) (end : End) : Type 0 where
+pub record ClosesAt (number refused : ℕ) (hold : List ℕ) (held line total sent : ℕ) (end : Option End) : Type 0 where
   pub same : line ≡ number
-  pub over : more ≡ false
-  pub taken : end ≡ Whole → sent ≡ length (finished (holding number refused (take held hold)))
-  pub counted : end ≡ Whole → total ≡ refused_at_end (holding number refused (take held hold))
+  pub over : end ≡ None → ⊥
+  pub taken : end ≡ Some Whole → sent ≡ length (finished (holding number refused (take held hold)))
+  pub counted : end ≡ Some Whole → total ≡ refused_at_end (holding number refused (take held hold))
 
 -- so many bytes were read, `got`, and the room holds them: they are taken in, and all that is put out for them was taken; or the input is at its end;
 -- unless a read or a write failed
-pub record Turns (room : List ℕ) (number refused : ℕ) (hold : List ℕ) (held line total : ℕ) (holds : List ℕ) (n : ℕ) (bytes : List ℕ) (numbers : List ℤ) (out : List ℕ) (sent : ℕ) (more : Bool) (end : End) : Type 0 where
+pub record Turns (room : List ℕ) (number refused : ℕ) (hold : List ℕ) (held line total : ℕ) (holds : List ℕ) (n : ℕ) (bytes : List ℕ) (numbers : List ℤ) (out : List ℕ) (sent : ℕ) (end : Option End) : Type 0 where
   pub grows : number ≤ line
-  pub count : more ≡ true → line ≤ number + read_limit
-  pub ready : more ≡ true → Ready holds n bytes numbers out
+  pub count : end ≡ None → line ≤ number + read_limit
+  pub ready : end ≡ None → Ready holds n bytes numbers out
   pub got : ℕ
-  pub leaves : more ≡ true → after (holding number refused (take held hold)) (take got room) ≡ holding line total (take n holds)
-  pub taken : more ≡ true → sent ≡ length (put (holding number refused (take held hold)) (take got room))
-  pub closed : more ≡ false → end ≡ Whole → sent ≡ length (finished (holding number refused (take held hold)))
-  pub counted : more ≡ false → end ≡ Whole → total ≡ refused_at_end (holding number refused (take held hold))
+  pub leaves : end ≡ None → after (holding number refused (take held hold)) (take got room) ≡ holding line total (take n holds)
+  pub taken : end ≡ None → sent ≡ length (put (holding number refused (take held hold)) (take got room))
+  pub closed : end ≡ Some Whole → sent ≡ length (finished (holding number refused (take held hold)))
+  pub counted : end ≡ Some Whole → total ≡ refused_at_end (holding number refused (take held hold))

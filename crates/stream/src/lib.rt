@@ -19,7 +19,7 @@ ghost use Rattle.stream.specs.Owed.{Owed, OwedLast};
 ghost use Rattle.stream.specs.Told.{line_ends, notice_room, noticed};
 ghost use Rattle.stream.specs.Turns.{read_limit, Received, Brought, Drains, ClosesAt, Turns};
 
-use bounds::copy_bytes;
+use areas::{Bytes, Numbers};
 use chunks::{HOLD, OUTPUT, feed, finish, one_if};
 use entries::NEWLINE;
 use scope::tables::Tables;
@@ -39,23 +39,22 @@ const TURNS: u64 = 1 << 50;
 const PATIENCE: u64 = 1 << 40;
 
 // How reading ended: with the input, with a read or with a write that failed.
-#[derive(Drop)]
+#[derive(Clone, Copy, Debug, PartialEq, Eq)]
 enum End {
     Whole,
     Unread,
     Unwritten,
 }
 
-// What is kept from one chunk to the next, how many bytes were taken by the output, and whether there is more to do; if not, how reading ended: the
-// number is that of the first line whose entry is not out, and of a whole input all refused lines are counted.
-#[derive(Drop)]
+// What is kept from one chunk to the next, how many bytes were taken by the output, and how reading ended, if there is no more to do: then the number is that
+// of the first line whose entry is not out, and of a whole input all refused lines are counted.
+#[derive(Clone, Copy, Debug, PartialEq, Eq)]
 struct Kept {
     number: u64,
     refused: u64,
     held: usize,
     sent: usize,
-    more: bool,
-    end: End,
+    end: Option<End>,
 }
 
 // ---- the streams
@@ -191,7 +190,7 @@ fn notice(words: &[u8], number: u64, out: &mut [u8]) -> usize
     ensures { Fronts (noticed words.now number) out.old out.new result }
 {
     let n = words.len();
-    copy_bytes(words, n, out);
+    out[..n].copy_from_slice(words);
     let a = figures::put_decimal(number, out, n);
     figures::put(out, a, NEWLINE)
 }
@@ -229,12 +228,12 @@ fn drain<W: Write, C: Clock>(
     hold: &mut [u8],
     held: usize,
     sheet: &mut Sheet,
-    bytes: &mut [u8],
-    numbers: &mut [i64],
+    bytes: &mut Bytes,
+    numbers: &mut Numbers,
     out: &mut [u8],
 ) -> Kept
     requires { (length chunk.now ≤ read_limit) × (number + read_limit + output_limit ≤ number_limit) × Ready hold.old held bytes.old numbers.old out.old × (refused < number) }
-    ensures { Drains chunk.now number refused hold.old held result.number result.refused hold.new result.held result.sent result.more result.end × Ready hold.new result.held bytes.new numbers.new out.new }
+    ensures { Drains chunk.now number refused hold.old held result.number result.refused hold.new result.held result.sent result.end × Ready hold.new result.held bytes.new numbers.new out.new }
 {
     let mut from: usize = 0;
     let mut line = number;
@@ -256,8 +255,7 @@ fn drain<W: Write, C: Clock>(
                 refused: total,
                 held: n,
                 sent: sent + taken,
-                more: false,
-                end: End::Unwritten,
+                end: Some(End::Unwritten),
             };
         }
         from = next;
@@ -271,8 +269,7 @@ fn drain<W: Write, C: Clock>(
         refused: total,
         held: n,
         sent,
-        more: true,
-        end: End::Whole,
+        end: None,
     }
 }
 
@@ -285,34 +282,32 @@ fn close<W: Write, C: Clock>(
     hold: &[u8],
     held: usize,
     sheet: &mut Sheet,
-    bytes: &mut [u8],
-    numbers: &mut [i64],
+    bytes: &mut Bytes,
+    numbers: &mut Numbers,
     out: &mut [u8],
 ) -> Kept
     requires { Ready hold.now held bytes.old numbers.old out.old × (refused < number) }
-    ensures { ClosesAt number refused hold.now held result.number result.refused result.sent result.more result.end }
+    ensures { ClosesAt number refused hold.now held result.number result.refused result.sent result.end }
 {
     let last = finish(number, hold, held, sheet, bytes, numbers, out);
     let put = last.next;
     let taken = hand_last(clock, output, number, hold, held, out, put);
     if taken < put {
-        return Kept {
+        Kept {
             number,
             refused,
             held,
             sent: taken,
-            more: false,
-            end: End::Unwritten,
-        };
-    }
-    let total = refused + one_if(last.refused);
-    Kept {
-        number,
-        refused: total,
-        held,
-        sent: taken,
-        more: false,
-        end: End::Whole,
+            end: Some(End::Unwritten),
+        }
+    } else {
+        Kept {
+            number,
+            refused: refused + one_if(last.refused),
+            held,
+            sent: taken,
+            end: Some(End::Whole),
+        }
     }
 }
 
@@ -327,31 +322,32 @@ fn take_in<W: Write, C: Clock>(
     hold: &mut [u8],
     held: usize,
     sheet: &mut Sheet,
-    bytes: &mut [u8],
-    numbers: &mut [i64],
+    bytes: &mut Bytes,
+    numbers: &mut Numbers,
     out: &mut [u8],
 ) -> Kept
     requires { (n ≤ length room.now) × (length room.now ≤ read_limit) × (number + read_limit + output_limit ≤ number_limit) × Ready hold.old held bytes.old numbers.old out.old × (refused < number) }
-    ensures { Turns room.now number refused hold.old held result.number result.refused hold.new result.held bytes.new numbers.new out.new result.sent result.more result.end }
+    ensures { Turns room.now number refused hold.old held result.number result.refused hold.new result.held bytes.new numbers.new out.new result.sent result.end }
 {
     if n == 0 {
-        return close(
+        close(
             clock, output, number, refused, hold, held, sheet, bytes, numbers, out,
-        );
+        )
+    } else {
+        drain(
+            clock,
+            output,
+            &room[..n],
+            number,
+            refused,
+            hold,
+            held,
+            sheet,
+            bytes,
+            numbers,
+            out,
+        )
     }
-    drain(
-        clock,
-        output,
-        &room[..n],
-        number,
-        refused,
-        hold,
-        held,
-        sheet,
-        bytes,
-        numbers,
-        out,
-    )
 }
 
 // One read. A line that is begun when a read fails is not answered: nothing says that it has ended.
@@ -365,15 +361,14 @@ fn turn<R: Read, W: Write, C: Clock>(
     hold: &mut [u8],
     held: usize,
     sheet: &mut Sheet,
-    bytes: &mut [u8],
-    numbers: &mut [i64],
+    bytes: &mut Bytes,
+    numbers: &mut Numbers,
     out: &mut [u8],
 ) -> Kept
     requires { (length room.old ≤ read_limit) × (number + read_limit + output_limit ≤ number_limit) × Ready hold.old held bytes.old numbers.old out.old × (refused < number) }
-    ensures { Turns room.new number refused hold.old held result.number result.refused hold.new result.held bytes.new numbers.new out.new result.sent result.more result.end }
+    ensures { Turns room.new number refused hold.old held result.number result.refused hold.new result.held bytes.new numbers.new out.new result.sent result.end }
 {
-    let got = receive(clock, input, room);
-    match got {
+    match receive(clock, input, room) {
         Some(n) => take_in(
             clock, output, room, n, number, refused, hold, held, sheet, bytes, numbers, out,
         ),
@@ -382,13 +377,12 @@ fn turn<R: Read, W: Write, C: Clock>(
             refused,
             held,
             sent: 0,
-            more: false,
-            end: End::Unread,
+            end: Some(End::Unread),
         },
     }
 }
 
-// Reads to the end of the input. A proved loop has to end, and nothing says that the input does: so the loop counts its turns down.
+// Reads to the end of the input. A proved loop has to end, and nothing says that the input does: so the loop counts its turns.
 fn serve<R: Read, W: Write, C: Clock>(
     clock: &C,
     input: &mut R,
@@ -396,36 +390,42 @@ fn serve<R: Read, W: Write, C: Clock>(
     room: &mut [u8],
     hold: &mut [u8],
     sheet: &mut Sheet,
-    bytes: &mut [u8],
-    numbers: &mut [i64],
+    bytes: &mut Bytes,
+    numbers: &mut Numbers,
     out: &mut [u8],
 ) -> Kept
     requires { (length room.old ≤ read_limit) × Ready hold.old 0 bytes.old numbers.old out.old }
     ensures { 1 ≤ result.number }
 {
-    let mut number: u64 = 1;
-    let mut refused: u64 = 0;
-    let mut held: usize = 0;
-    let mut turns: u64 = TURNS;
-    while turns > 0 {
-        let kept = turn(
-            clock, input, output, room, number, refused, hold, held, sheet, bytes, numbers, out,
+    let mut kept = Kept {
+        number: 1,
+        refused: 0,
+        held: 0,
+        sent: 0,
+        end: None,
+    };
+    for _turns in 0..TURNS {
+        kept = turn(
+            clock,
+            input,
+            output,
+            room,
+            kept.number,
+            kept.refused,
+            hold,
+            kept.held,
+            sheet,
+            bytes,
+            numbers,
+            out,
         );
-        if !kept.more {
+        if kept.end.is_some() {
             return kept;
         }
-        number = kept.number;
-        refused = kept.refused;
-        held = kept.held;
-        turns -= 1;
     }
     Kept {
-        number,
-        refused,
-        held,
-        sent: 0,
-        more: false,
-        end: End::Unread,
+        end: Some(End::Unread),
+        ..kept
     }
 }
 
@@ -464,17 +464,16 @@ pub fn run<R: Read, W: Write, E: Write, C: Clock>(
         &mut out,
     );
     let line = last.number - 1;
-    let end = last.end;
-    match end {
-        End::Whole => tell_refused(clock, errors, last.refused, &mut out),
-        End::Unread => tell(
+    match last.end {
+        Some(End::Whole) => tell_refused(clock, errors, last.refused, &mut out),
+        Some(End::Unread) | None => tell(
             clock,
             errors,
             b"register: the input could not be read: it ends after line ",
             line,
             &mut out,
         ),
-        End::Unwritten => tell(
+        Some(End::Unwritten) => tell(
             clock,
             errors,
             b"register: the output could not be written: it ends after line ",

@@ -1,7 +1,5 @@
 -- `chunks::feed` meets its contract: the line that is begun goes on past the chunk, or it ends, and lines behind it. Assumes nothing.
 use native.Mathlib.Omega.{arith}
-use borrow.Author.Rules.{rules}
-use borrow.Author.Tests.{not-true, not-false}
 use Rattle.chunks.proofs.Room.{still_clean}
 use Rattle.chunks.proofs.Putting.{feeds_held, feeds_lines}
 use Rattle.chunks.proofs.feed.Goals as goal
@@ -9,8 +7,8 @@ use Rattle.chunks.proofs.feed.Goals as goal
 pub gather-cut-requires : goal.gather-cut-requires
 gather-cut-requires c = (c.requires.0, c.requires.2.within, c.requires.2.room)
 
-pub returns-then-not-cut : goal.returns-then-not-cut
-returns-then-not-cut c = feeds_held c.requires.2 c.gather-cut.ensures (not-true _ c.if-not-cut.true)
+pub returns-else-cut : goal.returns-else-cut
+returns-else-cut c = feeds_held c.requires.2 c.gather-cut.ensures c.if-cut.false
 
 pub put_part-entered-requires : goal.put_part-entered-requires
 put_part-entered-requires c =
@@ -25,14 +23,14 @@ put_lines-requires c =
     let r = c.put_part-entered.ensures.0 in
     let w = b.2 in (
       n.inside,
-      omega (arith, b.1, n.goes (not-false _ c.if-not-cut.false)),
+      omega (arith, b.1, n.goes c.if-cut.true),
       still_clean r w.clean,
       omega (arith, r.puts.near, r.out_long, w.wide),
       omega (arith, b.3, c.one_if.ensures.1),
     )
 
-pub returns : goal.returns
-returns c =
-    feeds_lines c.requires.2 c.gather-cut.ensures (not-false _ c.if-not-cut.false) c.put_part-entered.ensures c.one_if.ensures
+pub returns-then-cut : goal.returns-then-cut
+returns-then-cut c =
+    feeds_lines c.requires.2 c.gather-cut.ensures c.if-cut.true c.put_part-entered.ensures c.one_if.ensures
     c.put_lines.ensures.0
     c.put_lines.ensures.1

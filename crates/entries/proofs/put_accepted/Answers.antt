@@ -12,6 +12,6 @@ use Rattle.entries.proofs.put_accepted.Goals as goal
 pub returns : goal.returns
 returns c =
     let m = tables_in c.args.bytes.now c.args.numbers.now in
-    puts_of (fields_append (count_fields c.args.residues c.args.brackets c.args.floaters) (total_text m ∷ canonical m ∷ []))
+    puts_of (fields_append (count_fields c.args.noted) (total_text m ∷ canonical m ∷ []))
     (puts_join c.put_counts-a.ensures
     (field_then c.put_total-b.ensures _ (field_last (puts_join c.put-c.ensures (puts_exact {n = line_limit} c.requires.0.short c.put_line.ensures)))))

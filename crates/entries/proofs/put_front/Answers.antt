@@ -6,5 +6,5 @@ use Rattle.entries.proofs.put_front.Goals as goal
 pub returns : goal.returns
 returns c =
     let w = c.put_report-e.ensures.0 in
-    let t = puts_of (entry_text _ _) (puts_join c.put_decimal-a.ensures (puts_join w.puts c.put-next.ensures)) in
+    let t = puts_of (entry_text _ _) (puts_join c.put_decimal-a.ensures (puts_join w.puts c.put.ensures)) in
     (record { puts = t; out_long = puts_length t; bytes_same = w.bytes_same; numbers_same = w.numbers_same }, c.put_report-e.ensures.1)

@@ -8,22 +8,22 @@ use Rattle.entries.specs.Entry.{is_refused}
 use Rattle.entries.proofs.Taken.{refused_text, floats_of}
 use Rattle.entries.proofs.put_report.Goals as goal
 
-pub put_taken-next-requires : goal.put_taken-next-requires
-put_taken-next-requires c =
-    let w = rw c.in-Holds.is at c.judge-judged.ensures in
+pub put_taken-requires : goal.put_taken-requires
+put_taken-requires c =
+    let w = rw c.in-Ok.is at c.judge.ensures in
     (fills w.1 c.requires.0, floats_of c.args.line.now (is_accepted {l = w.0} w.1) w.2, omega arith)
 
-pub returns-in-Holds : goal.returns-in-Holds
-returns-in-Holds c =
-    let w = rw c.in-Holds.is at c.judge-judged.ensures in
-    (c.put_taken-next.ensures, ap is_refused (sym (is_accepted {l = w.0} w.1)))
+pub returns-in-Ok : goal.returns-in-Ok
+returns-in-Ok c =
+    let w = rw c.in-Ok.is at c.judge.ensures in
+    (c.put_taken.ensures, ap is_refused (sym (is_accepted {l = w.0} w.1)))
 
-pub returns-in-Refused : goal.returns-in-Refused
-returns-in-Refused c =
-    let w = rw c.in-Refused.is at c.judge-judged.ensures in (
+pub returns-in-Err : goal.returns-in-Err
+returns-in-Err c =
+    let w = rw c.in-Err.is at c.judge.ensures in (
       record {
-        puts = puts_of (refused_text c.args.line.now w) (puts_within (omega arith) c.put_refused-next.ensures);
-        out_long = puts_length c.put_refused-next.ensures;
+        puts = puts_of (refused_text c.args.line.now w) (puts_within (omega arith) c.put_refused.ensures);
+        out_long = puts_length c.put_refused.ensures;
         bytes_same = refl;
         numbers_same = refl;
       },

@@ -8,8 +8,8 @@ use Rattle.figures.proofs.Storing.{puts_of, puts_length}
 use Rattle.entries.proofs.Taken.{known, taken_text}
 use Rattle.entries.proofs.put_taken.Goals as goal
 
-pub put_accepted-r-requires : goal.put_accepted-r-requires
-put_accepted-r-requires c =
+pub put_accepted-next-requires : goal.put_accepted-next-requires
+put_accepted-next-requires c =
     let f = c.requires.0 in
     (known f.holds_line (is_accepted f.line_noted) (filled c.store.ensures), omega arith)
 
@@ -24,8 +24,8 @@ returns c =
     let w = filled c.store.ensures in
     let same = put_back f w c.wipe.ensures in
     record {
-      puts = puts_of (taken_text f c.requires.1 w) c.put_accepted-r.ensures;
-      out_long = puts_length c.put_accepted-r.ensures;
+      puts = puts_of (taken_text f c.requires.1 w) c.put_accepted-next.ensures;
+      out_long = puts_length c.put_accepted-next.ensures;
       bytes_same = same.0;
       numbers_same = same.1;
     }

@@ -6,4 +6,4 @@ use Rattle.entries.proofs.Texts.{weight_text_lem}
 use Rattle.entries.proofs.put_total.Goals as goal
 
 pub returns : goal.returns
-returns c = puts_join c.put-a.ensures (puts_of (ap weight_text c.weigh-w.ensures ∙ weight_text_lem _) c.put_weight.ensures)
+returns c = puts_join c.put-a.ensures (puts_of (ap weight_text c.weigh.ensures ∙ weight_text_lem _) c.put_weight.ensures)

@@ -7,11 +7,11 @@ use Rattle.entries.proofs.Texts.{total_told_lem, lacks_told}
 use borrow.Author.Rules.{rules}
 use Rattle.entries.proofs.put_weight.Goals as goal
 
-pub returns-in-Total : goal.returns-in-Total
-returns-in-Total c =
-    let m = c.in-Total.m in
+pub returns-in-Ok : goal.returns-in-Ok
+returns-in-Ok c =
+    let m = c.in-Ok.m in
     let read : to_z w64 (of_z w64 m) ≡ m = search rules in
-    puts_of (total_told_lem c.in-Total.is read) c.put_signed.ensures
+    puts_of (total_told_lem c.in-Ok.is read) c.put_signed.ensures
 
-pub returns-in-Lacks : goal.returns-in-Lacks
-returns-in-Lacks c = puts_of (lacks_told c.in-Lacks.is) (puts_join c.put-a.ensures c.put_decimal.ensures)
+pub returns-in-Err : goal.returns-in-Err
+returns-in-Err c = puts_of (lacks_told c.in-Err.is) (puts_join c.put-a.ensures c.put_decimal.ensures)

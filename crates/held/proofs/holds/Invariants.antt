@@ -3,4 +3,4 @@ use Rattle.held.proofs.LineLaws.{HoldingBrackets}
 use Rattle.held.proofs.holds.Given as goal
 
 abbrev pub invariant-loop-k : goal.invariant-loop-k
-invariant-loop-k l = HoldingBrackets l.line l.sheet l.residues l.brackets l.bytes l.numbers l.initial.seen l.k l.seen
+invariant-loop-k l = HoldingBrackets l.line l.sheet l.residues l.brackets l.bytes l.numbers l.k l.t

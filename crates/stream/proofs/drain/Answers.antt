@@ -6,7 +6,7 @@ use Rattle.stream.proofs.Handing.{owed, taken_start, taken_more, taken_all, stay
 use Rattle.stream.proofs.drain.Goals as goal
 
 pub loop-from-init : goal.loop-from-init
-loop-from-init g c = taken_start _ _ _ _ _ _ _ _ c.requires.2
+loop-from-init g c = taken_start _ _ _ _ _ _ c.requires.2
 
 pub feed-fed-requires : goal.feed-fed-requires
 feed-fed-requires g c =
@@ -50,8 +50,8 @@ loop-from-smaller g c =
 pub loop-from-preserved : goal.loop-from-preserved
 loop-from-preserved g c =
     let f = c.feed-fed.ensures in
-    taken_more _ _ _ _ _ _ _ _ c.loop-from.invariant c.loop-from-test.true f.0 f.1 c.hand-taken.ensures.within c.if-taken-put.false
-    (search rules) (search rules) (search rules)
+    taken_more _ _ _ _ _ _ c.loop-from.invariant c.loop-from-test.true f.0 f.1 c.hand-taken.ensures.within c.if-taken-put.false
+    (search rules)
 
 pub returns : goal.returns
-returns g c = taken_all _ _ _ _ _ _ _ _ c.loop-from.invariant c.loop-from-test.false
+returns g c = taken_all _ _ _ _ _ _ c.loop-from.invariant c.loop-from-test.false

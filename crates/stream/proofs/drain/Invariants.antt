@@ -7,7 +7,7 @@ use Rattle.stream.proofs.drain.Given as goal
 abbrev pub invariant-loop-from : goal.invariant-loop-from
 invariant-loop-from g l =
     let i = l.initial in
-    ChunkTaken l.chunk l.number l.refused i.hold l.held i.bytes i.numbers i.out l.from l.line l.total l.n l.sent l.hold
+    ChunkTaken l.chunk l.number l.refused i.hold l.held i.out l.from l.line l.total l.n l.sent l.hold
     l.bytes l.numbers l.out
 
 abbrev pub decreases-loop-from : goal.decreases-loop-from

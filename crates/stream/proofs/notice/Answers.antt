@@ -5,5 +5,5 @@ use Rattle.stream.proofs.notice.Goals as goal
 
 pub returns : goal.returns
 returns c =
-    notice_fronts c.args.words.now c.args.number c.args.out.now c.requires.0 c.copy_bytes.ensures c.put_decimal-a.ensures c.put.ensures
+    notice_fronts c.args.words.now c.args.number c.args.out.now c.requires.0 (search rules) c.put_decimal-a.ensures c.put.ensures
     (search rules)

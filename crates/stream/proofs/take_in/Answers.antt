@@ -13,7 +13,7 @@ drain-requires g c =
     let p = c.requires in
     (front_fits c.args.n c.args.room.now p.1, p.2, p.3, p.4)
 
-pub returns : goal.returns
-returns g c =
+pub returns-else-n-eq0 : goal.returns-else-n-eq0
+returns-else-n-eq0 g c =
     let d = c.drain.ensures in
     turns_chunk _ c.requires.0 c.requires.1 d.0 d.1

@@ -8,8 +8,8 @@ use Rattle.stream.proofs.turn.Goals as goal
 
 pub take_in-requires : goal.take_in-requires
 take_in-requires g c =
-    let same : length c.receive-got.new.room ≡ length c.args.room.now = search rules in
-    (came_fits c.in-Some.is c.receive-got.ensures.fits same, omega (arith, c.requires.0, same), c.requires.1, c.requires.2, c.requires.3)
+    let same : length c.receive.new.room ≡ length c.args.room.now = search rules in
+    (came_fits c.in-Some.is c.receive.ensures.fits same, omega (arith, c.requires.0, same), c.requires.1, c.requires.2, c.requires.3)
 
 pub returns-in-Some : goal.returns-in-Some
 returns-in-Some g c = c.take_in.ensures

@@ -163,6 +163,7 @@ fn put_lines(
         held: 0,
         put: at,
     };
+    // it goes on behind the end of a line, and stops where the output is full: no step of one
     while ENTRY <= out.len() - fed.put {
         let end = line_end(chunk, fed.next);
         if end == chunk.len() {

@@ -41,6 +41,7 @@ fn put_field(n: u64, out: &mut [u8], at: usize) -> usize
     figures::put_decimal(n, out, a)
 }
 
+// `-` of a number below zero, else `+`.
 fn sign(m: i64) -> u8
     ensures { result ∷ decimal (nat_abs m) ≡ signed_text m }
 {
@@ -72,6 +73,7 @@ fn put_weight(w: Result<i64, Lacking>, out: &mut [u8], at: usize) -> usize
 
 // ---- "no, number, place"
 
+// A function of its own: what a cast gives is known to its caller by a clause.
 fn number_of(reason: Reason) -> u8
     ensures { result ≡ reason_number reason }
 {
@@ -141,7 +143,7 @@ fn put_taken(
 
 // ---- the entry
 
-// Where the entry ends in the output, and whether the line is refused.
+// Where the entry ends in the output, and whether the line is refused: a refused one has an entry too.
 #[derive(Clone, Copy, Debug, PartialEq, Eq)]
 pub struct Entered {
     pub next: usize,

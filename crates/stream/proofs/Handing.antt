@@ -106,16 +106,16 @@ module _ (chunk : List ℕ) (number refused : ℕ) (hold₀ : List ℕ) (held : 
         out_long = o ∙ w.out_long;
       }
 
-  pub taken_all : {from line total n sent : ℕ} {hold : List ℕ} {bytes : List ℕ} {numbers : List ℤ} {out : List ℕ} → ChunkTaken from line total n sent hold bytes numbers out
-      → length chunk ≤ from → Drains chunk number refused hold₀ held line total hold n sent None × Ready hold n bytes numbers out
-  taken_all {from} w l =
+  pub taken_all : {from line total n sent : ℕ} {hold : List ℕ} {bytes : List ℕ} {numbers : List ℤ} {out : List ℕ} {end : Option End} → ChunkTaken from line total n sent hold bytes numbers out × (end ≡ None)
+      → length chunk ≤ from → Drains chunk number refused hold₀ held line total hold n sent end × Ready hold n bytes numbers out
+  taken_all {from} (w, e) l =
       let all = sym (take_all from chunk l) in (
         record {
           grows = w.grows;
           count = λ _. omega (arith, w.count, w.inside);
           leaves = λ _. ap (after begun) all ∙ w.leaves;
           taken = λ _. w.given ∙ ap (λ y. length (put begun y)) (sym all);
-          lost = unended;
+          lost = λ q. unended (sym e ∙ q);
         },
         w.ready,
       )

@@ -103,6 +103,7 @@ fn send<W: Write, C: Clock>(clock: &C, to: &mut W, text: &[u8], n: usize) -> usi
     ensures written { Appends (W.contents to.old) (W.contents to.new) (take result text.now) }
 {
     let mut done: usize = 0;
+    // each write takes as many bytes as it likes: no step of one
     while done < n {
         let got = send_some(clock, to, text, done, n);
         if got == 0 {
@@ -236,41 +237,60 @@ fn drain<W: Write, C: Clock>(
     ensures { Drains chunk.now number refused hold.old held result.number result.refused hold.new result.held result.sent result.end × Ready hold.new result.held bytes.new numbers.new out.new }
 {
     let mut from: usize = 0;
-    let mut line = number;
-    let mut total = refused;
-    let mut n = held;
-    let mut sent: usize = 0;
+    let mut kept = Kept {
+        number,
+        refused,
+        held,
+        sent: 0,
+        end: None,
+    };
+    // a piece ends where the output is full: no step of one
     while from < chunk.len() {
         let fed = feed(
-            chunk, from, line, total, hold, n, sheet, bytes, numbers, out,
+            chunk,
+            from,
+            kept.number,
+            kept.refused,
+            hold,
+            kept.held,
+            sheet,
+            bytes,
+            numbers,
+            out,
         );
-        let next = fed.next;
-        let put = fed.put;
         let taken = hand(
-            clock, output, chunk, from, next, line, total, hold, n, out, put,
+            clock,
+            output,
+            chunk,
+            from,
+            fed.next,
+            kept.number,
+            kept.refused,
+            hold,
+            kept.held,
+            out,
+            fed.put,
         );
-        if taken < put {
+        let sent = kept.sent + taken;
+        if taken < fed.put {
+            let number = kept.number + lines_in(out, taken);
             return Kept {
-                number: line + lines_in(out, taken),
-                refused: total,
-                held: n,
-                sent: sent + taken,
+                number,
+                sent,
                 end: Some(End::Unwritten),
+                ..kept
             };
         }
-        from = next;
-        line = fed.number;
-        total = fed.refused;
-        n = fed.held;
-        sent += taken;
+        from = fed.next;
+        kept = Kept {
+            number: fed.number,
+            refused: fed.refused,
+            held: fed.held,
+            sent,
+            end: None,
+        };
     }
-    Kept {
-        number: line,
-        refused: total,
-        held: n,
-        sent,
-        end: None,
-    }
+    kept
 }
 
 // The input is at its end, and a line that is begun ends with it.

@@ -1,5 +1,7 @@
 -- `stream::drain` meets its contract. The loop: the chunk is taken in up to `from`, and what is put out for that was taken. Assumes nothing.
 use Prim.Native.Nat.{◌-◌}
+use mathlib.Core.Path.{◌≡◌}
+use Rattle.std.specs.Prelude.{None}
 use lib.ListN.{length}
 use Rattle.stream.proofs.Handing.{ChunkTaken}
 use Rattle.stream.proofs.drain.Given as goal
@@ -7,8 +9,8 @@ use Rattle.stream.proofs.drain.Given as goal
 abbrev pub invariant-loop-from : goal.invariant-loop-from
 invariant-loop-from g l =
     let i = l.initial in
-    ChunkTaken l.chunk l.number l.refused i.hold l.held i.out l.from l.line l.total l.n l.sent l.hold
-    l.bytes l.numbers l.out
+    let k = l.kept in
+    ChunkTaken l.chunk l.number l.refused i.hold l.held i.out l.from k.number k.refused k.held k.sent l.hold l.bytes l.numbers l.out × (k.end ≡ None)
 
 abbrev pub decreases-loop-from : goal.decreases-loop-from
 decreases-loop-from g l = length l.chunk - l.from

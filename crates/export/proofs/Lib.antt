@@ -1,5 +1,4 @@
 pub mod Fits
 pub mod Lent
 pub mod Told
-pub mod Areas
 pub mod Why

@@ -13,14 +13,14 @@ use Rattle.scope.specs.Lists.{padded, laid}
 use Rattle.scope.specs.Layout.{tables_in}
 use Rattle.scope.specs.Positions.{floating_of}
 use Rattle.scope.specs.Reasons.{Reason}
-use Rattle.scope.specs.Answers.{Said, good, refuses, too_short, are_tables, counts, output_after, says, reason_number}
+use Rattle.scope.specs.Answers.{Said, good, refuses, too_short, are_tables, counts, output_after, reason_number}
 use Rattle.basics.specs.Said.{not_both, same_good}
 use Rattle.placement_laws.specs.Answered.{some_reason}
 use Rattle.calls.specs.Competing.{told_of, WhySays}
 use Rattle.export.specs.Numbers.{number_of, left}
 use Rattle.export.specs.Shapes.{why_lent, WhyHanded}
 use Rattle.scope.specs.declared.refusals.Refusal.{Refusal}
-use Rattle.std.specs.Prelude.{Result, Ok, Err}
+use Rattle.std.specs.Prelude.{Ok, Err}
 use Rattle.scope.specs.declared.answers.Why.{Why}
 use Rattle.export.proofs.Told.{as_refused}
 
@@ -30,17 +30,17 @@ said_same true taken e = absurd (not_both e)
 said_same false true e = same_good e
 said_same false false e = absurd (not_both e)
 
-said_good : {A B : Type 0} (short taken : Bool) {x y : A} {m n : B} → good x ≡ cond short (refuses 13 0) (cond taken (good y) (refuses 14 0)) → m ≡ n
+said_good : {A B : Type 0} (short taken : Bool) {x : A} (y : A) {m n : B} → good x ≡ cond short (refuses 13 0) (cond taken (good y) (refuses 14 0)) → m ≡ n
     → good m ≡ cond short (refuses 13 0) (cond taken (good n) (refuses 14 0))
-said_good true taken e f = absurd (not_both e)
-said_good false true e f = ap good f
-said_good false false e f = absurd (not_both e)
+said_good true taken y e f = absurd (not_both e)
+said_good false true y e f = ap good f
+said_good false false y e f = absurd (not_both e)
 
-said_refused : {A B : Type 0} (short taken : Bool) {x : A} {n : B} {m q : ℕ} → refuses m q ≡ cond short (refuses 13 0) (cond taken (good x) (refuses 14 0))
+said_refused : {A B : Type 0} (short taken : Bool) (x : A) (n : B) {m q : ℕ} → refuses m q ≡ cond short (refuses 13 0) (cond taken (good x) (refuses 14 0))
     → refuses m q ≡ cond short (refuses 13 0) (cond taken (good n) (refuses 14 0))
-said_refused true taken e = as_refused e
-said_refused false true e = absurd (not_both (sym e))
-said_refused false false e = as_refused e
+said_refused true taken x n e = as_refused e
+said_refused false true x n e = absurd (not_both (sym e))
+said_refused false false x n e = as_refused e
 
 -- the set that is named: its numbers stand at the front of the entries
 module _ (bs : List ℕ) (ns : List ℤ) {r : Why} (w : WhySays bs ns (Ok r)) where
@@ -54,7 +54,7 @@ module _ (bs : List ℕ) (ns : List ℤ) {r : Why} (w : WhySays bs ns (Ok r)) wh
   names = ap (λ x. x.at) named
 
   counted : good r.count ≡ counts bs ns (λ t. length w.set)
-  counted = said_good (too_short bs ns) (are_tables bs ns) w.says many
+  counted = said_good (too_short bs ns) (are_tables bs ns) _ w.says many
 
   pub why_fits : length r.at ≡ copy_limit → r.count ≤ copy_limit
   why_fits long =
@@ -90,7 +90,7 @@ module _ (bs : List ℕ) (ns : List ℤ) (old : List ℕ) (count : ℕ) where
     pub why_refused : {e : Refusal} → WhySays bs ns (Err e) → WhyHanded bs ns old count (reason_number e.reason) count old
     why_refused {e} w =
         handed (w.set, w.reason) {said = refuses (reason_number e.reason) e.place}
-        (said_refused (too_short bs ns) (are_tables bs ns) w.says ∙ long_enough w.set)
+        (said_refused (too_short bs ns) (are_tables bs ns) _ _ w.says ∙ long_enough w.set)
 
     pub why_told : {r : Why} → WhySays bs ns (Ok r) → {new : List ℕ} → new ≡ take r.count r.at ++ drop r.count old → WhyHanded bs ns old count 0 r.count new
     why_told {r} w copied =

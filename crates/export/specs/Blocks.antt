@@ -2,7 +2,7 @@
 use Rattle.std.specs.Prelude.{ℕ, ◌≡◌, cond, List, ltb, length, take}
 use Rattle.scope.specs.Limits.{copy_limit}
 use Rattle.scope.specs.Lists.{laid}
-use Rattle.scope.specs.Answers.{Said, good, refuses}
+use Rattle.scope.specs.Answers.{Said, refuses}
 use Rattle.blocks.specs.Area.{Put}
 use Rattle.blocks.specs.Entry.{Entry}
 use Rattle.blocks.specs.Answers.{empty_said, empty_after, fetch_said, fetched_length, out_after, remove_said, remove_after, adding, added_to}

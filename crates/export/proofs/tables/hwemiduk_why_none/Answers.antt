@@ -3,7 +3,7 @@ use mathlib.Core.Path.{◌≡◌}
 use native.Mathlib.Omega.{arith}
 use lib.ListN.{length}
 use Rattle.scope.specs.Limits.{copy_limit}
-use Rattle.export.proofs.Why.{why_short, why_refused, why_fits, why_told}
+use Rattle.export.proofs.Why.{why_short, why_fits, why_told}
 use borrow.Author.Rules.{rules}
 use Rattle.export.proofs.tables.hwemiduk_why_none.Goals as goal
 
@@ -12,12 +12,10 @@ returns-then-floaters-lt-COPIES c = why_short _ _ _ _ c.if-floaters-lt-COPIES.tr
 
 pub copy_bytes-requires : goal.copy_bytes-requires
 copy_bytes-requires c =
-    let long : length c.why_none-w.result.at ≡ copy_limit = search rules in
-    let fits = why_fits _ _ c.why_none-w.ensures c.in-Is.is long in
+    let w = rw c.in-Ok.is at c.why_none.ensures in
+    let long : length c.in-Ok.why.at ≡ copy_limit = search rules in
+    let fits = why_fits _ _ w long in
     (omega (arith, fits, long), omega (arith, fits, c.if-floaters-lt-COPIES.false))
 
-pub returns-in-Is : goal.returns-in-Is
-returns-in-Is c = why_told _ _ _ _ c.if-floaters-lt-COPIES.false c.why_none-w.ensures c.in-Is.is c.copy_bytes.ensures
-
-pub returns-in-Refused : goal.returns-in-Refused
-returns-in-Refused c = why_refused _ _ _ _ c.if-floaters-lt-COPIES.false c.why_none-w.ensures c.in-Refused.is
+pub returns-in-Ok : goal.returns-in-Ok
+returns-in-Ok c = why_told _ _ _ _ c.if-floaters-lt-COPIES.false (rw c.in-Ok.is at c.why_none.ensures) c.copy_bytes.ensures

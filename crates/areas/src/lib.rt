@@ -15,7 +15,8 @@ pub type Bytes = [u8; Tables::BYTES];
 
 pub type Numbers = [i64; Tables::NUMBERS];
 
-// The floaters: how many there are, the number of each one's bracket, and which of its copies it is, from 1.
+// The floaters: how many there are, the number of each one's bracket, and which of its copies it is, from 1. Two arrays, since both are handed out as such, and of both the first
+// `count` entries count: nothing is allocated.
 #[derive(Clone, Copy, Debug, PartialEq, Eq)]
 pub struct Floaters {
     pub count: usize,

@@ -3,7 +3,7 @@
 
 use scope::answers::Placement;
 
-// An entry that was fetched: how many bytes its line has, and its placement.
+// An entry that was fetched: how many bytes its line has, which lie in the output that was lent, and its placement.
 #[derive(Clone, Copy, Debug, PartialEq, Eq)]
 pub struct Fetched {
     pub size: usize,

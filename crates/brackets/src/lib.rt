@@ -43,7 +43,7 @@ pub fn count(bytes: &Bytes, k: usize) -> usize
     areas::count(bytes, k)
 }
 
-// The kind of a code; every other code is of unknown position.
+// The kind of a code; every other code is of unknown position. A byte of a lent area may be any, so this is no `TryFrom`.
 fn kind_of(code: usize) -> Kind
     ensures { result ≡ kind_in code }
 {

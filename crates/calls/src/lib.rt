@@ -196,7 +196,7 @@ pub fn shown(bytes: &[u8], numbers: &[i64]) -> Shown
     }
 }
 
-// Whether a placement is allowed by the tables.
+// Whether a placement is allowed by the tables. Its first lines are those of `next_by`: the table is filled in place, where one function for both would hand it on by value.
 pub fn is_allowed_by(bytes: &Bytes, numbers: &Numbers, p: Placement) -> bool
     requires { (Bounds bytes.now numbers.now) × (length (floaters (tables_in bytes.now numbers.now)) ≤ copy_limit) }
     ensures { result ≡ allowed (floating_of (tables_in bytes.now numbers.now)) p.at }

@@ -13,7 +13,8 @@ pub struct Area<'a> {
     ghost whole: { Whole bytes.now blocks },
 }
 
-// The chain of an entry: how many blocks it has, how many bytes of content, and the blocks in order at the front of a row.
+// The chain of an entry: how many blocks it has, how many bytes of content, and the blocks in order at the front of a row:
+// nothing is allocated.
 #[derive(Clone, Copy, Debug, PartialEq, Eq)]
 pub struct Chain {
     pub many: usize,

@@ -40,7 +40,7 @@ const REASONS: [Reason; RANKS] = [
 
 const RANKS: usize = 10;
 
-// Their ranks: a pair too deep; too many or too long; out of range; barred; only digits; only INFO; only INFO in a declaration; wrongly labelled; too many copies; a composition that cannot be cut.
+// Their ranks, numbers and no enum: rank and place are one number, of which the lowest is due. A pair too deep; too many or too long; out of range; barred; only digits; only INFO; only INFO in a declaration; wrongly labelled; too many copies; a composition that cannot be cut.
 pub const DEEP: usize = 0;
 
 pub const OVER: usize = 1;

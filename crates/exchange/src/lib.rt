@@ -21,7 +21,7 @@ pub struct Standing {
 
 // The floaters that may have to move, in the order found: each but the first with the index of the one that wants its position.
 // Of both arrays the first n entries count: nothing is allocated.
-#[derive(Clone, Copy)]
+#[derive(Clone, Copy, Debug, PartialEq, Eq)]
 struct Tree {
     n: usize,
     order: [usize; Placement::COPIES],

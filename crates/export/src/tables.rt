@@ -116,7 +116,7 @@ pub fn hwemiduk_total(bytes: &[u8], numbers: &[i64], millionths: &mut i64, place
     tell_total(calls::total(bytes, numbers), millionths, place)
 }
 
-// How a bracket's mass is told to C: none, stated, only measured.
+// How a bracket's mass is told to C, by a number: none, stated, only measured.
 const NONE: u8 = 0;
 
 const STATED: u8 = 1;

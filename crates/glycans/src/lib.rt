@@ -13,7 +13,7 @@ use scope::refusals::{Reason, Refusal};
 // ---- the list
 
 // A name, in "the list's spelling", and its mass in ten-thousandths.
-#[derive(Clone, Copy)]
+#[derive(Clone, Copy, Debug, PartialEq, Eq)]
 struct Sugar {
     name: &'static [u8],
     mass: u64,
@@ -107,7 +107,7 @@ fn last_name(text: &[u8]) -> Option<usize>
 // ---- the count that ends a text
 
 // Where it begins, and the count: 1 where none is written.
-#[derive(Clone, Copy)]
+#[derive(Clone, Copy, Debug, PartialEq, Eq)]
 struct Count {
     start: usize,
     count: u8,
@@ -162,7 +162,7 @@ fn one_digit(b: u8, n: usize) -> Option<Count>
 // ---- the piece that ends a text
 
 // A name with its count, 1 where none is written, and where it begins.
-#[derive(Clone, Copy)]
+#[derive(Clone, Copy, Debug, PartialEq, Eq)]
 struct Piece {
     start: usize,
     name: usize,
@@ -197,7 +197,7 @@ pub struct Cutting {
 }
 
 impl Cutting {
-    // In the tables: the code of its key, that of its value, and the decimals of its mass.
+    // In the tables: the code of its key, that of its value, and the decimals of its mass. The bytes of a row, so numbers.
     pub const KEY: usize = 15;
 
     pub const VALUE: usize = 4;
@@ -220,6 +220,7 @@ pub fn cut(line: &[u8], from: usize, to: usize) -> Option<Cutting>
     let mut size: usize = 0;
     let mut mass: u64 = 0;
     let mut pieces: usize = 0;
+    // from the right: what is left of the text is a piece shorter each turn
     while let Some(p) = last_piece(rest) {
         let s = sugar_at(p.name);
         size += s.name.len() + digits(p.count);
@@ -266,6 +267,7 @@ pub fn put_short(line: &[u8], from: usize, to: usize, out: &mut [u8], at: usize)
 {
     let mut rest = &line[from..to];
     let mut a = at;
+    // from the right: what is left of the text is a piece shorter each turn
     while let Some(p) = last_piece(rest) {
         a = put_digits(p.count, out, a);
         a = put_name(p.name, out, a);
@@ -333,6 +335,7 @@ fn put_pieces(text: &[u8], out: &mut [u8], n: usize)
 {
     let mut rest = text;
     let mut a = n;
+    // from the right: what is left of the text is a piece shorter each turn
     while let Some(p) = last_piece(rest) {
         a -= Piece::BYTES;
         out[a] = p.name as u8;

@@ -23,7 +23,7 @@ use values::{Body, Value};
 
 // The parts of a bracket: how many, how many labels they have, whether all are INFO, whether the first is a reference, the score of the first label that has one, and
 // the first refusal due.
-#[derive(Clone, Copy)]
+#[derive(Clone, Copy, Debug, PartialEq, Eq)]
 pub struct Parts {
     pub count: usize,
     pub labels: usize,
@@ -34,14 +34,14 @@ pub struct Parts {
 }
 
 // A bracket that was read: the place behind it, and its parts.
-#[derive(Clone, Copy)]
+#[derive(Clone, Copy, Debug, PartialEq, Eq)]
 pub struct Bracketed {
     pub next: usize,
     pub parts: Parts,
 }
 
 // One part more: the bracket is closed, or the next part begins.
-#[derive(Clone, Copy)]
+#[derive(Clone, Copy, Debug, PartialEq, Eq)]
 enum Next {
     Closed(usize, Parts),
     More(usize, Parts),
@@ -68,6 +68,7 @@ pub fn bracket_at(
 {
     let mut i = at;
     let mut s = no_parts(least);
+    // a turn goes behind a whole part, until one closes the bracket: no step of one
     loop {
         match next_part(line, sheet, i, shut, refers, labels, room, base, s)? {
             Next::Closed(next, parts) => {
@@ -285,7 +286,7 @@ fn text_place(body: Body, place: usize) -> usize
     }
 }
 
-// The number of a key in its row.
+// The number of a key in its row: a cast in the middle of an expression would have no law of its cases.
 fn key_code(key: Key) -> u8
     ensures { result ≡ key_code key }
 {

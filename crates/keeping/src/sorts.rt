@@ -44,7 +44,7 @@ fn sort_at(area: &Area<'_>, b: usize) -> Sort
     }
 }
 
-// The number of a sort.
+// The number of a sort: a cast in the middle of an expression would have no bound.
 fn index_of(sort: Sort) -> usize
     ensures { (result ≡ sort_number sort) × (result < sort_many) }
 {

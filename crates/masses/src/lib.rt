@@ -36,7 +36,7 @@ pub struct Lacking {
 const DECIMALS: usize = Number::DECIMALS as usize;
 
 // The sum so far, and how many modifications had no stated mass.
-#[derive(Clone, Copy)]
+#[derive(Clone, Copy, Debug, PartialEq, Eq)]
 struct Tally {
     sum: i64,
     lacks: usize,

@@ -28,7 +28,7 @@ pub struct Num {
 }
 
 // A run of digits: its value, kept at the cap or below, and the place behind it.
-#[derive(Clone, Copy)]
+#[derive(Clone, Copy, Debug, PartialEq, Eq)]
 struct DigitRun {
     value: u64,
     next: usize,

@@ -291,7 +291,7 @@ fn at_opened(b: u8) -> Act
     }
 }
 
-// What a byte does.
+// What a byte does: an arm for each mode is the table of 01.
 #[tactic(auto, unfolding(scope::specs::Reading::act))]
 pub fn act_of(mode: Mode, b: u8) -> Act
     ensures { result ≡ act mode b }

@@ -21,7 +21,7 @@ pub struct Set {
 }
 
 // The positions of a set: how many, and which. The number is kept here too.
-#[derive(Clone, Copy)]
+#[derive(Clone, Copy, Debug, PartialEq, Eq)]
 struct Cover {
     n: usize,
     at: [bool; Ledger::POSITIONS],

@@ -16,11 +16,11 @@ use scope::answers::Placement;
 use scope::grammar::Kind;
 use sheet::{Head, Sheet};
 
-// where no label ends
+// where no label ends, as the sheet notes it
 const NOWHERE: usize = 0;
 
 // The first refusal due, and how many copies float.
-#[derive(Drop)]
+#[derive(Clone, Copy, Debug, PartialEq, Eq)]
 pub struct Found {
     pub first: usize,
     pub floaters: usize,

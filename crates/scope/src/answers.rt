@@ -54,6 +54,7 @@ impl Placement {
 }
 
 // Why there is no placement: how many floaters have too few positions together, none where there is a placement; and their numbers, ascending, unused entries 0.
+// An array and how many of it count, as in the C interface: nothing is allocated.
 #[derive(Clone, Copy, Debug, PartialEq, Eq)]
 pub struct Why {
     pub count: usize,
@@ -69,7 +70,7 @@ pub struct Listing {
 }
 
 impl Listing {
-    // the marks of a record
+    // the marks of a record, which a caller may have filled with any byte
     pub const FRESH: u8 = 1;
 
     pub const UNMARKED: u8 = 0;
@@ -95,7 +96,7 @@ impl Ledger {
     pub const POSITIONS: usize = Tables::RESIDUES + 2;
 }
 
-// The total for display: "either a mass as a double or the number of modifications without one". Document 01 names this enum of three, so it is no Result.
+// The total for display: "either a mass as a double or the number of modifications without one". Document 01 names this enum of three, so it is no Result; of doubles there is no `Eq`.
 #[derive(Clone, Copy, Debug)]
 pub enum Shown {
     Daltons(f64),

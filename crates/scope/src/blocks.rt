@@ -30,7 +30,7 @@ impl Block {
 
     pub const SUM_AT: usize = Self::CONTENT_AT + Self::ROOM;
 
-    // "(1 free, 2 first of an entry, 3 further)"
+    // "(1 free, 2 first of an entry, 3 further)": of a block that is not sound the byte may be any, so these are numbers
     pub const FREE: u8 = 1;
 
     pub const FIRST: u8 = 2;

@@ -36,7 +36,7 @@ impl Tables {
     // of a declaration
     pub const PLACES: usize = 16;
 
-    // the sites of the termini, as places; that of a residue is its letter
+    // the sites of the termini, as places; that of a residue is its letter, so all are bytes
     pub const N_TERMINUS: u8 = 1;
 
     pub const C_TERMINUS: u8 = 2;

@@ -12,7 +12,7 @@ ghost use Rattle.sheet.specs.Fields.{place_field, kind_field, sort_field, count_
 use scope::tables::Tables;
 
 // What is noted of a line: the letters of its residues and the codes of their sections, a row for each bracket and each part, the masses of the parts and the scores
-// of the brackets.
+// of the brackets. It is lent, and never copied, compared or shown. Its arrays are tables of their own, with as many rows each as there are brackets or parts.
 #[derive(Drop)]
 pub struct Sheet {
     pub letters: [u8; Tables::RESIDUES],
@@ -319,7 +319,7 @@ impl Sheet {
 
 // A bracket whose count is not read yet: where it begins, the codes of its kind and of its sort, the first and the last position it stands on, how many parts and
 // labels it has, the number of its first part, and its score.
-#[derive(Drop)]
+#[derive(Clone, Copy, Debug, PartialEq, Eq)]
 pub struct Head {
     pub place: usize,
     pub kind: usize,
@@ -333,7 +333,8 @@ pub struct Head {
 }
 
 impl Head {
-    // what a bracket is: only INFO, an unlabelled modification, a labelled one, a reference
+    // What a bracket is: only INFO, an unlabelled modification, a labelled one, a reference. Numbers of a row, which are compared and not matched: an enum would
+    // be cast to them wherever it is noted.
     pub const ONLY_INFO: usize = 0;
 
     pub const UNLABELLED: usize = 1;
@@ -381,17 +382,17 @@ const LABEL_FROM: usize = 5;
 
 const LABEL_TO: usize = 6;
 
-// the count of a bracket that has none, and whether a count is written
+// The count of a bracket that has none, and whether a count is written: numbers of a row, which has no room for other types.
 const ONCE: u16 = 1;
 
 const UNWRITTEN: u16 = 0;
 
 const WRITTEN: u16 = 1;
 
-// where there is no label, or no places
+// where there is no label, or no places: none ends at the first byte of a line
 const NOWHERE: u16 = 0;
 
-// A number of a table.
+// A number of a table: a cast in the middle of an expression would have no bound.
 fn wide(n: u16) -> usize
     ensures { (result ≡ n) × (result < wide_limit) }
 {

@@ -36,7 +36,7 @@ pub fn offset_of(n: usize, t: usize) -> usize
     if n == 0 { 0 } else { t }
 }
 
-// the code of a text
+// the code of a text, a byte of its row
 const TEXT: usize = 2;
 
 // Whether row m is a text behind the key of compositions.

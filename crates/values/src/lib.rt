@@ -14,7 +14,8 @@ ghost use Rattle.values.specs.Within.{SaysFrom, told, takes_mass, PlainTo, deep_
 use scope::grammar::{Key, Stuck};
 use scope::tables::Number;
 
-// What stands behind a key: a mass, with its number if that is in range; a text, with the first place at which a pair in it is too deep, if there is one; a reference.
+// What stands behind a key: a mass, with its number if that is in range; a text, with the first place at which a pair in it is too deep, if there is one; a reference: three
+// sorts, so no Result.
 #[derive(Clone, Copy, Debug, PartialEq, Eq)]
 pub enum Body {
     Mass(Option<Number>),
@@ -57,7 +58,7 @@ pub struct Value {
 }
 
 // What may stand behind a key: a mass or a name; a mass; digits; letters or digits; a text in which `#` is plain; a composition.
-#[derive(Clone, Copy)]
+#[derive(Clone, Copy, Debug, PartialEq, Eq)]
 enum Form {
     MassOrName,
     MassOnly,

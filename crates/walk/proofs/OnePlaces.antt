@@ -12,14 +12,13 @@ use Rattle.scope.specs.declared.grammar.Mode.TheVariants.{Listed}
 use Rattle.scope.specs.declared.grammar.Act.TheVariants.{Places}
 use Rattle.scope.specs.Limits.{bracket_limit, place_limit}
 use Rattle.scope.specs.Line.{Place, Bracket}
-use Rattle.scope.specs.Reading.{Held, declared_at, with_places, outside, perform, reading, stuck}
-use Rattle.reading_laws.proofs.Run.{rest}
+use Rattle.scope.specs.Reading.{Held, declared_at, with_places, perform, reading, stuck}
 use Rattle.sites.specs.Says.{place_of, Stand, ListReads}
 use Rattle.sites.specs.declared.Listed.{Listed as List-at}
 use Rattle.scope.specs.declared.grammar.Stuck.{Stuck}
 use Rattle.std.specs.Prelude.{Result, Ok, Err}
 use Rattle.sites.specs.Says.{ListSays}
-use Rattle.sheet.specs.Rows.{places_from, PlacesStand, Noted}
+use Rattle.sheet.specs.Rows.{places_from, Noted}
 use Rattle.sheet.specs.Fields.{places_at}
 use Rattle.dues.specs.Ranks.{code, lowest}
 use Rattle.dues.specs.Lines.{over_rank, met_codes}

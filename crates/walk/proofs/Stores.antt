@@ -5,7 +5,7 @@ use Prim.Native.Nat.{ℕ, suc, ◌+◌, ◌-◌, ◌≤◌, ◌<◌}
 use native.Mathlib.Omega.{arith}
 use native.Mathlib.Numerals.{add-one}
 use lib.ListN.{length, take, drop, get_or, set, replicate, length-map, length-drop, length-replicate, replicate-append-replicate}
-use lib.Seq.{sets, length-sets, take-suc, get_or-drop, length-take-le}
+use lib.Seq.{sets, take-suc, get_or-drop, length-take-le}
 use lib.Dec.{ltb}
 use Rattle.scope.specs.declared.grammar.Section.{Section}
 use Rattle.scope.specs.declared.grammar.Mode.{Mode}
@@ -40,9 +40,6 @@ pub letters_start : (old : List ℕ) (n : ℕ) (line : List ℕ) (at m : ℕ) �
 letters_start old n line at m = record { sofar = refl; low = omega arith }
 
 module _ {old : List ℕ} {n : ℕ} {line : List ℕ} {at m i : ℕ} {letters : List ℕ} (w : LettersPut old n line at m i letters) where
-  pub letters_long : length letters ≡ length old
-  letters_long = ap length w.sofar ∙ length-sets old n (map upper (part at i line))
-
   pub letters_next : at + m ≤ length line → i < m → (b : ℕ) → b ≡ upper (get_or line (at + i) 0) → LettersPut old n line at m (i + 1) (set letters (n + i) b)
   letters_next h l b e =
       let room : i < length (drop at line) = omega (arith, length-drop at line) in
@@ -73,9 +70,6 @@ sections_start old n end next h =
     record { sofar = ap (λ k. sets old (suc n) (replicate k next)) e; past = omega arith; low = omega arith }
 
 module _ {old : List ℕ} {n end next i : ℕ} {sections : List ℕ} (w : SectionsPut old n end next i sections) where
-  pub sections_long : length sections ≡ length old
-  sections_long = ap length w.sofar ∙ length-sets old (suc n) (replicate (i - n - 1) next)
-
   pub sections_next : i < end → SectionsPut old n end next (i + 1) (set sections i next)
   sections_next h =
       let k : i ≡ suc n + length (replicate (i - n - 1) next) = omega (arith, length-replicate (i - n - 1) next, w.past) in

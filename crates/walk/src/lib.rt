@@ -23,7 +23,7 @@ use scope::tables::Tables;
 use sheet::{Head, Sheet};
 
 // How many residues and brackets a line holds, and the first refusal due of 5 to 9 and 19.
-#[derive(Clone, Copy)]
+#[derive(Clone, Copy, Debug, PartialEq, Eq)]
 pub struct Walked {
     pub residues: usize,
     pub brackets: usize,
@@ -32,7 +32,7 @@ pub struct Walked {
 
 // How far a line is walked: the place, how far its order has come, the number of residues, the position of the group's first, the numbers of brackets, of those that
 // are settled and of parts that are noted, and the first refusal due.
-#[derive(Clone, Copy)]
+#[derive(Clone, Copy, Debug, PartialEq, Eq)]
 struct Stage {
     at: usize,
     mode: Mode,
@@ -70,10 +70,8 @@ fn store_letters(letters: &mut [u8], n: usize, line: &[u8], at: usize, m: usize)
     requires { (at + m ≤ length line.now) × (n + m ≤ length letters.old) × (n + m ≤ residue_limit) × (length line.now ≤ line_limit) }
     ensures { letters.new ≡ sets letters.old n (map inUpper (part at m line.now)) }
 {
-    let mut i = 0;
-    while i < m {
+    for i in 0..m {
         letters[n + i] = classes::upper(line[at + i]);
-        i += 1;
     }
 }
 
@@ -83,14 +81,12 @@ fn store_sections(sections: &mut [u8], n: usize, end: usize, first: u8, next: u8
     ensures { sections.new ≡ sets sections.old n (first ∷ replicate (end - n - 1) next) }
 {
     sections[n] = first;
-    let mut i = n + 1;
-    while i < end {
+    for i in n + 1..end {
         sections[i] = next;
-        i += 1;
     }
 }
 
-// The number of a section in the tables.
+// The number of a section in the tables: a cast in the middle of an expression would have no law of its cases.
 fn section_code(section: Section) -> u8
     ensures { result ≡ section_code section }
 {
@@ -170,7 +166,7 @@ fn residues_read(line: &[u8], sheet: &mut Sheet, s: Stage, section: Section, mod
 
 // ---- a bracket
 
-// The number of a kind in the tables.
+// The number of a kind in the tables, as with that of a section.
 fn kind_code(kind: Kind) -> usize
     ensures { result ≡ kind_code kind }
 {
@@ -476,6 +472,7 @@ pub fn walk(line: &[u8], sheet: &mut Sheet) -> Result<Walked, Stuck>
 {
     sheet.sized();
     let mut s = first_stage();
+    // a step reads a byte, a run of letters or a whole bracket: no step of one
     while s.at < line.len() {
         s = step_from(line, sheet, s)?;
     }

@@ -125,7 +125,7 @@ pub fn is_link(line: &[u8], at: usize, end: usize) -> bool
     begins(b"XL", text) || is(b"BRANCH", text)
 }
 
-// The key of a number.
+// The key of a number; every other number is no key. A byte of a lent area may be any, so this is no `TryFrom`.
 #[tactic(auto, unfolding(scope::specs::Keys::keys))]
 pub fn key_of(code: usize) -> Key
     ensures { result ≡ key_in code }

@@ -22,7 +22,7 @@ use scope::grammar::{Kind, Section};
 use scope::tables::Tables;
 use spelling::{put_key, put_site};
 
-// The codes of a part's value: a mass, a text, a composition.
+// The codes of a part's value: a mass, a text, a composition. A byte of a lent area, which may be any, is compared with them.
 const MASS: usize = 1;
 
 const TEXT: usize = 2;

@@ -1,5 +1,4 @@
 -- The row of a bracket, from what was read of it.
-use mathlib.Core.Path.{refl}
 use Rattle.walk.proofs.Heads.{head_says}
 use native.Mathlib.Omega.{arith}
 use Rattle.walk.proofs.head_of.Goals as goal

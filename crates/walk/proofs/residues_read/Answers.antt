@@ -1,5 +1,5 @@
 -- A residue read with the letters behind it: stored, and what is due of them.
-use mathlib.Core.Path.{refl, ap, ◌∙◌}
+use mathlib.Core.Path.{ap, ◌∙◌}
 use native.Mathlib.Omega.{arith}
 use Rattle.walk.specs.Stages.{with_letters}
 use Rattle.walk.specs.Steps.{letters_put, sections_put}

@@ -1,6 +1,5 @@
-use Prim.Native.Nat.{◌-◌}
 use native.Mathlib.Omega.{arith}
-use Rattle.walk.proofs.Stores.{letters_start, letters_long, letters_next, letters_end}
+use Rattle.walk.proofs.Stores.{letters_start, letters_next, letters_end}
 use Rattle.walk.proofs.store_letters.Goals as goal
 
 pub loop-i-init : goal.loop-i-init
@@ -8,12 +7,6 @@ loop-i-init c = letters_start _ _ _ _ _
 
 pub bounds-line-at : goal.bounds-line-at
 bounds-line-at c = omega (arith, c.requires.0, c.loop-i-test.true)
-
-pub bounds-letters-n : goal.bounds-letters-n
-bounds-letters-n c = omega (arith, c.requires.1, c.loop-i-test.true, letters_long c.loop-i.invariant)
-
-pub loop-i-smaller : goal.loop-i-smaller
-loop-i-smaller c = omega (arith, c.loop-i-test.true)
 
 pub loop-i-preserved : goal.loop-i-preserved
 loop-i-preserved c = letters_next c.loop-i.invariant c.requires.0 c.loop-i-test.true _ c.upper.ensures

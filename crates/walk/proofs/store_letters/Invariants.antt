@@ -1,10 +1,6 @@
 -- The letters of residues, stored by a loop.
-use Prim.Native.Nat.{◌-◌}
 use Rattle.walk.proofs.Stores.{LettersPut}
 use Rattle.walk.proofs.store_letters.Given as goal
 
 abbrev pub invariant-loop-i : goal.invariant-loop-i
 invariant-loop-i l = LettersPut l.initial.letters l.n l.line l.at l.m l.i l.letters
-
-abbrev pub decreases-loop-i : goal.decreases-loop-i
-decreases-loop-i l = l.m - l.i

@@ -1,10 +1,6 @@
 -- The sections of residues, stored by a loop.
-use Prim.Native.Nat.{◌-◌}
 use Rattle.walk.proofs.Stores.{SectionsPut}
 use Rattle.walk.proofs.store_sections.Given as goal
 
 abbrev pub invariant-loop-i : goal.invariant-loop-i
 invariant-loop-i l = SectionsPut l.initial.sections l.n l.end l.next l.i l.sections
-
-abbrev pub decreases-loop-i : goal.decreases-loop-i
-decreases-loop-i l = l.end - l.i

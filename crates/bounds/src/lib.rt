@@ -114,5 +114,5 @@ pub fn copy_bytes(from: &[u8], n: usize, to: &mut [u8])
     requires { (n ≤ length from.now) × (n ≤ length to.old) }
     ensures { to.new ≡ take n from.now ++ drop n to.old }
 {
-    to[..n].copy_from_slice(&from[..n]);
+    copies::copy(&from[..n], &mut to[..n]);
 }

@@ -40,7 +40,10 @@ fn copy_content(block: &[u8; Block::SIZE], m: usize, room: &mut [u8], at: usize)
     requires { (m ≤ content_room) × (at + m ≤ length room.old) }
     ensures { room.new ≡ put_at at (part content_at m block.now) room.old }
 {
-    room[at..at + m].copy_from_slice(&block[Block::CONTENT_AT..Block::CONTENT_AT + m]);
+    copies::copy(
+        &block[Block::CONTENT_AT..Block::CONTENT_AT + m],
+        &mut room[at..at + m],
+    );
 }
 
 // Are these bytes 1 to 128 whole blocks?

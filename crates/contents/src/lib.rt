@@ -71,7 +71,8 @@ fn is_entry(line: &[u8], p: Placement) -> bool
     }
 }
 
-// Is a content as stated? It may have any bytes.
+// Is a content as stated? It may have any bytes. Not inlined, as `make_content`: what a caller has on the stack beside it counts against what the header says.
+#[inline(never)]
 pub fn is_stated(content: &[u8]) -> bool
     ensures { result ≡ is_stated new_kind content.now }
 {
@@ -102,6 +103,7 @@ fn content_of(
 }
 
 // The content of a line's entry under a placement, at the front of a room, and how many bytes it has; or the line's own refusal, or 18.
+#[inline(never)]
 pub fn make_content(line: &[u8], p: Placement, room: &mut [u8]) -> Result<usize, Refusal>
     requires { content_most ≤ length room.old }
     ensures { ContentSays line.now p.at result room.new }

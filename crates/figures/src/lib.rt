@@ -36,7 +36,7 @@ pub fn word(w: &[u8], out: &mut [u8], at: usize) -> usize
 {
     if at < out.len() {
         let m = w.len().min(out.len() - at);
-        out[at..at + m].copy_from_slice(&w[..m]);
+        copies::copy(&w[..m], &mut out[at..at + m]);
     }
     at + w.len()
 }

@@ -110,7 +110,8 @@ fn add_new(area: &mut [u8], number: u32, content: &[u8]) -> Result<(), Refusal>
     Ok(())
 }
 
-// A content under a number: 26, 25, 23, 24.
+// A content under a number: 26, 25, 23, 24. Not inlined: the two rooms of `add` are not on the stack while the content is made.
+#[inline(never)]
 fn add_content(area: &mut [u8], number: u32, content: &[u8]) -> Result<(), Refusal>
     requires { (1 ≤ length content.now) × (length content.now ≤ content_most) }
     ensures { ContentAdded area.old number content.now result area.new }

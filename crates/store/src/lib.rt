@@ -26,7 +26,7 @@ fn put(bytes: &mut Bytes, at: usize, from: &[u8])
     requires { at + length from.now ≤ length bytes.old }
     ensures { bytes.new ≡ sets bytes.old at from.now }
 {
-    bytes[at..at + from.len()].copy_from_slice(from);
+    copies::copy(from, &mut bytes[at..at + from.len()]);
 }
 
 // Where so many bytes lie behind t others: nowhere, where there are none.

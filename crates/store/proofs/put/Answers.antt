@@ -3,4 +3,4 @@ use Rattle.store.proofs.Copies.{put_at}
 use Rattle.store.proofs.put.Goals as goal
 
 pub returns : goal.returns
-returns c = rw c.copy_from_slice.ensures.after (put_at _ c.args.at _ c.requires)
+returns c = rw c.copy.ensures (put_at _ c.args.at _ c.requires)

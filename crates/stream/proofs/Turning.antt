@@ -1,40 +1,41 @@
 -- Laws of turn upon turn: one read, the loop over them, and the arrays of zeros that it starts with.
-use mathlib.Core.Path.{◌≡◌, refl, ◌∙◌, subst}
+use mathlib.Core.Path.{◌≡◌, refl, sym, ap, ◌∙◌}
+use mathlib.Core.Bool.{Bool, true, false}
 use mathlib.Core.List.{List}
 use Prim.Native.Nat.{ℕ, ◌+◌, ◌*◌, ◌<◌, ◌≤◌}
 use native.Mathlib.Omega.{arith}
 use lib.IntN.{ℤ, pos}
 use lib.ListN.{length, take, replicate, length-take, length-replicate}
-use lib.Seq.{take_all, length-take-le}
+use lib.Seq.{take_all, take-take}
+use lib.Dec.{leb}
+use Rattle.std.proofs.Common.{leb-true, leb-false}
 use Rattle.scope.specs.Layout.{bytes_size, numbers_size}
 use Rattle.entries.specs.Entry.{entry_limit}
-use Rattle.chunks.specs.Feeding.{hold_limit}
+use Rattle.chunks.specs.Feeding.{hold_limit, holding, after, put}
 use Rattle.chunks.specs.Lent.{output_limit, Ready}
 use Rattle.chunks.proofs.Putting.{stays_few}
 use Rattle.stream.specs.declared.End.{End}
 use Rattle.stream.specs.declared.End.TheVariants.{Unread}
 use Rattle.std.specs.Prelude.{Option, Some, None}
-use Rattle.stream.specs.Turns.{read_limit, Received, Drains, ClosesAt, Turns}
+use Rattle.stream.specs.Turns.{read_limit, Drains, ClosesAt, Turns}
 use Rattle.stream.proofs.Handing.{over, unread}
 
 -- ---- one read
-pub came_fits : {room room' n : ℕ} {g : Option ℕ} → g ≡ Some n → Received room g → room' ≡ room → n ≤ room'
-came_fits {room} {room'} {n} e r l = let h : n ≤ room = subst (Received room) e r in omega arith
-
 pub front_fits : (n : ℕ) (l : List ℕ) → length l ≤ read_limit → length (take n l) ≤ read_limit
 front_fits n l h = omega (arith, length-take n l)
 
 module _ {room : List ℕ} {number refused : ℕ} {hold : List ℕ} {held line total : ℕ} {holds : List ℕ} {n : ℕ} {bytes : List ℕ} {numbers : List ℤ} {out : List ℕ} {sent : ℕ} {end : Option End} where
-  pub turns_chunk : (got : ℕ) → got ≤ length room → length room ≤ read_limit → Drains (take got room) number refused hold held line total holds n sent end
-      → Ready holds n bytes numbers out → Turns room number refused hold held line total holds n bytes numbers out sent end
-  turns_chunk got h k d r =
+  pub turns_chunk : length room ≤ read_limit → Drains room number refused hold held line total holds n sent end → Ready holds n bytes numbers out
+      → Turns room number refused hold held line total holds n bytes numbers out sent end
+  turns_chunk k d r =
+      let all = take_all (length room) room (omega arith) in
       record {
         grows = d.grows;
-        count = λ e. omega (arith, d.count e, length-take-le got room h);
+        count = λ e. omega (arith, d.count e);
         ready = λ _. r;
-        got = got;
-        leaves = d.leaves;
-        taken = d.taken;
+        got = length room;
+        leaves = λ e. ap (after (holding number refused (take held hold))) all ∙ d.leaves e;
+        taken = λ e. d.taken e ∙ ap (λ z. length (put (holding number refused (take held hold)) z)) (sym all);
         closed = λ e. absurd (d.lost e);
         counted = λ e. absurd (d.lost e);
       }
@@ -51,6 +52,31 @@ module _ {room : List ℕ} {number refused : ℕ} {hold : List ℕ} {held line t
         closed = c.taken;
         counted = c.counted;
       }
+
+-- what is said of a front of the room is said of the room
+module _ {room : List ℕ} {number refused : ℕ} {hold : List ℕ} {held line total : ℕ} {holds : List ℕ} {n : ℕ} {bytes : List ℕ} {numbers : List ℤ} {out : List ℕ} {sent : ℕ} {end : Option End} (front : ℕ) where
+  same_part : (t : Turns (take front room) number refused hold held line total holds n bytes numbers out sent end) (got : ℕ) → take t.got (take front room) ≡ take got room
+      → Turns room number refused hold held line total holds n bytes numbers out sent end
+  same_part t got same =
+      record {
+        grows = t.grows;
+        count = t.count;
+        ready = t.ready;
+        got = got;
+        leaves = λ e. ap (after (holding number refused (take held hold))) (sym same) ∙ t.leaves e;
+        taken = λ e. t.taken e ∙ ap (λ z. length (put (holding number refused (take held hold)) z)) same;
+        closed = t.closed;
+        counted = t.counted;
+      }
+
+  in_front : (t : Turns (take front room) number refused hold held line total holds n bytes numbers out sent end) (b : Bool) → leb t.got front ≡ b
+      → Turns room number refused hold held line total holds n bytes numbers out sent end
+  in_front t true q = same_part t t.got (take-take t.got front room (leb-true t.got front q))
+  in_front t false q = same_part t front (take_all t.got (take front room) (omega (arith, leb-false t.got front q, length-take front room)))
+
+  pub turns_front : Turns (take front room) number refused hold held line total holds n bytes numbers out sent end
+      → Turns room number refused hold held line total holds n bytes numbers out sent end
+  turns_front t = in_front t (leb t.got front) refl
 
 pub turns_failed : {room : List ℕ} {number refused : ℕ} {hold : List ℕ} {held total : ℕ} {holds : List ℕ} {n : ℕ} {bytes : List ℕ} {numbers : List ℤ} {out : List ℕ} {sent : ℕ}
     → Turns room number refused hold held number total holds n bytes numbers out sent (Some Unread)

@@ -11,7 +11,7 @@
 // there are as many as among the lines of what was read (`refused_in_one`).
 #![tactic(auto)]
 
-ghost use Rattle.std.specs.Prelude.{◌≡◌, ◌+◌, ◌<◌, ◌≤◌, drop, length, take};
+ghost use Rattle.std.specs.Prelude.{◌≡◌, ◌+◌, ◌<◌, ◌≤◌, length, take};
 ghost use Rattle.std.specs.Io.KnownBytes.{Appends};
 ghost use Rattle.chunks.specs.Lent.{number_limit, output_limit, Ready};
 ghost use Rattle.chunks.specs.Puts.{Fronts};
@@ -71,20 +71,13 @@ fn again<C: Clock>(clock: &C, error: &Error) -> bool {
     }
 }
 
-// How many bytes a write took of those from a place up to another; none, where it failed.
-fn send_some<W: Write, C: Clock>(
-    clock: &C,
-    to: &mut W,
-    text: &[u8],
-    from: usize,
-    end: usize,
-) -> usize
-    requires { (from ≤ end) × (end ≤ length text.now) }
-    ensures within { from + result ≤ end }
-    ensures written { Appends (W.contents to.old) (W.contents to.new) (take result (drop from text.now)) }
+// How many bytes of the text a write took; none, where it failed.
+fn send_some<W: Write, C: Clock>(clock: &C, to: &mut W, text: &[u8]) -> usize
+    ensures within { result ≤ length text.now }
+    ensures written { Appends (W.contents to.old) (W.contents to.new) (take result text.now) }
 {
     for _ in 0..PATIENCE {
-        match to.write(&text[from..end]) {
+        match to.write(text) {
             Ok(got) => return got,
             Err(error) => {
                 if !again(clock, &error) {
@@ -96,16 +89,15 @@ fn send_some<W: Write, C: Clock>(
     0
 }
 
-// How many of the first n bytes were taken: all of them, where no write failed.
-fn send<W: Write, C: Clock>(clock: &C, to: &mut W, text: &[u8], n: usize) -> usize
-    requires { n ≤ length text.now }
-    ensures within { result ≤ n }
+// How many bytes of the text were taken: all of them, where no write failed.
+fn send<W: Write, C: Clock>(clock: &C, to: &mut W, text: &[u8]) -> usize
+    ensures within { result ≤ length text.now }
     ensures written { Appends (W.contents to.old) (W.contents to.new) (take result text.now) }
 {
     let mut done: usize = 0;
     // each write takes as many bytes as it likes: no step of one
-    while done < n {
-        let got = send_some(clock, to, text, done, n);
+    while done < text.len() {
+        let got = send_some(clock, to, &text[done..]);
         if got == 0 {
             return done;
         }
@@ -133,7 +125,7 @@ fn hand<W: Write, C: Clock>(
     ensures within { result ≤ n }
     ensures written { Appends (W.contents output.old) (W.contents output.new) (take result out.now) }
 {
-    send(clock, output, out, n)
+    send(clock, output, &out[..n])
 }
 
 // The same at the end of the input.
@@ -150,7 +142,7 @@ fn hand_last<W: Write, C: Clock>(
     ensures within { result ≤ n }
     ensures written { Appends (W.contents output.old) (W.contents output.new) (take result out.now) }
 {
-    send(clock, output, out, n)
+    send(clock, output, &out[..n])
 }
 
 // What a read brought: so many bytes at the front of the room; none, where it failed.
@@ -173,13 +165,12 @@ fn receive<R: Read, C: Clock>(clock: &C, input: &mut R, room: &mut [u8]) -> Opti
 
 // ---- a failure, told
 
-// How many lines end among the first n bytes.
-fn lines_in(text: &[u8], n: usize) -> u64
-    requires { n ≤ length text.now }
-    ensures { (result ≡ line_ends (take n text.now)) × (result ≤ n) }
+// How many lines end in a text.
+fn lines_in(text: &[u8]) -> u64
+    ensures { (result ≡ line_ends text.now) × (result ≤ length text.now) }
 {
     let mut ends: u64 = 0;
-    for &b in &text[..n] {
+    for &b in text {
         ends += one_if(b == NEWLINE);
     }
     ends
@@ -197,24 +188,17 @@ fn notice(words: &[u8], number: u64, out: &mut [u8]) -> usize
 }
 
 // A notice to standard error. Whether it is taken is not asked.
-fn say<W: Write, C: Clock>(
-    clock: &C,
-    errors: &mut W,
-    words: &[u8],
-    number: u64,
-    out: &[u8],
-    n: usize,
-)
-    requires { (n ≤ length out.now) × (take n out.now ≡ noticed words.now number) }
+fn say<W: Write, C: Clock>(clock: &C, errors: &mut W, words: &[u8], number: u64, text: &[u8])
+    requires { text.now ≡ noticed words.now number }
 {
-    send(clock, errors, out, n);
+    send(clock, errors, text);
 }
 
 fn tell<W: Write, C: Clock>(clock: &C, errors: &mut W, words: &[u8], number: u64, out: &mut [u8])
     requires { (length words.now + notice_room ≤ length out.old) × (length out.old ≤ output_limit) }
 {
     let n = notice(words, number, out);
-    say(clock, errors, words, number, out, n);
+    say(clock, errors, words, number, &out[..n]);
 }
 
 // ---- the program
@@ -273,7 +257,7 @@ fn drain<W: Write, C: Clock>(
         );
         let sent = kept.sent + taken;
         if taken < fed.put {
-            let number = kept.number + lines_in(out, taken);
+            let number = kept.number + lines_in(&out[..taken]);
             return Kept {
                 number,
                 sent,
@@ -335,8 +319,7 @@ fn close<W: Write, C: Clock>(
 fn take_in<W: Write, C: Clock>(
     clock: &C,
     output: &mut W,
-    room: &[u8],
-    n: usize,
+    text: &[u8],
     number: u64,
     refused: u64,
     hold: &mut [u8],
@@ -346,26 +329,16 @@ fn take_in<W: Write, C: Clock>(
     numbers: &mut Numbers,
     out: &mut [u8],
 ) -> Kept
-    requires { (n ≤ length room.now) × (length room.now ≤ read_limit) × (number + read_limit + output_limit ≤ number_limit) × Ready hold.old held bytes.old numbers.old out.old × (refused < number) }
-    ensures { Turns room.now number refused hold.old held result.number result.refused hold.new result.held bytes.new numbers.new out.new result.sent result.end }
+    requires { (length text.now ≤ read_limit) × (number + read_limit + output_limit ≤ number_limit) × Ready hold.old held bytes.old numbers.old out.old × (refused < number) }
+    ensures { Turns text.now number refused hold.old held result.number result.refused hold.new result.held bytes.new numbers.new out.new result.sent result.end }
 {
-    if n == 0 {
+    if text.is_empty() {
         close(
             clock, output, number, refused, hold, held, sheet, bytes, numbers, out,
         )
     } else {
         drain(
-            clock,
-            output,
-            &room[..n],
-            number,
-            refused,
-            hold,
-            held,
-            sheet,
-            bytes,
-            numbers,
-            out,
+            clock, output, text, number, refused, hold, held, sheet, bytes, numbers, out,
         )
     }
 }
@@ -390,7 +363,17 @@ fn turn<R: Read, W: Write, C: Clock>(
 {
     match receive(clock, input, room) {
         Some(n) => take_in(
-            clock, output, room, n, number, refused, hold, held, sheet, bytes, numbers, out,
+            clock,
+            output,
+            &room[..n],
+            number,
+            refused,
+            hold,
+            held,
+            sheet,
+            bytes,
+            numbers,
+            out,
         ),
         None => Kept {
             number,

@@ -1,6 +1,7 @@
 -- A piece is fed, it is owed, and what of it is taken is counted; where a write fails, so are the lines that are out.
 use mathlib.Core.Path.{refl}
 use native.Mathlib.Omega.{arith}
+use lib.ListN.{length-take}
 use borrow.Author.Rules.{rules}
 use Rattle.chunks.proofs.Putting.{stays_few}
 use Rattle.stream.proofs.Handing.{owed, taken_start, taken_more, taken_all, stays_ready, drains_lost}
@@ -26,7 +27,7 @@ overflow_add-number g c =
     let w = c.loop-from.invariant.0 in
     let f = c.feed-fed.ensures in
     let p = c.requires in
-    omega (arith, w.count, w.inside, f.0.puts.fits, f.1.narrow, c.if-taken-fed.true, c.lines_in.ensures.1, p.0, p.1)
+    omega (arith, w.count, w.inside, f.0.puts.fits, f.1.narrow, c.if-taken-fed.true, c.lines_in.ensures.1, length-take c.hand-taken.result c.feed-fed.new.out, p.0, p.1)
 
 pub returns-then-taken-fed : goal.returns-then-taken-fed
 returns-then-taken-fed g c =

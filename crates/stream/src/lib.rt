@@ -19,11 +19,8 @@ ghost use Rattle.stream.specs.Owed.{Owed, OwedLast};
 ghost use Rattle.stream.specs.Told.{line_ends, notice_room, noticed};
 ghost use Rattle.stream.specs.Turns.{read_limit, Received, Brought, Drains, ClosesAt, Turns};
 
-use areas::{Bytes, Numbers};
-use chunks::{HOLD, OUTPUT, feed, finish, one_if};
+use chunks::{Desk, feed, finish, one_if};
 use entries::NEWLINE;
-use scope::tables::Tables;
-use sheet::Sheet;
 use std::io::{Error, ErrorKind, Read, Write};
 use std::rt::Clock;
 use std::thread;
@@ -116,16 +113,15 @@ fn hand<W: Write, C: Clock>(
     next: usize,
     number: u64,
     refused: u64,
-    hold: &[u8],
     held: usize,
-    out: &[u8],
+    desk: &Desk,
     n: usize,
 ) -> usize
-    requires { Owed chunk.now from next number refused hold.now held out.now n }
+    requires { Owed chunk.now from next number refused desk.now.hold held desk.now.out n }
     ensures within { result ≤ n }
-    ensures written { Appends (W.contents output.old) (W.contents output.new) (take result out.now) }
+    ensures written { Appends (W.contents output.old) (W.contents output.new) (take result desk.now.out) }
 {
-    send(clock, output, &out[..n])
+    send(clock, output, &desk.out[..n])
 }
 
 // The same at the end of the input.
@@ -133,16 +129,15 @@ fn hand_last<W: Write, C: Clock>(
     clock: &C,
     output: &mut W,
     number: u64,
-    hold: &[u8],
     held: usize,
-    out: &[u8],
+    desk: &Desk,
     n: usize,
 ) -> usize
-    requires { OwedLast number hold.now held out.now n }
+    requires { OwedLast number desk.now.hold held desk.now.out n }
     ensures within { result ≤ n }
-    ensures written { Appends (W.contents output.old) (W.contents output.new) (take result out.now) }
+    ensures written { Appends (W.contents output.old) (W.contents output.new) (take result desk.now.out) }
 {
-    send(clock, output, &out[..n])
+    send(clock, output, &desk.out[..n])
 }
 
 // What a read brought: so many bytes at the front of the room; none, where it failed.
@@ -210,15 +205,11 @@ fn drain<W: Write, C: Clock>(
     chunk: &[u8],
     number: u64,
     refused: u64,
-    hold: &mut [u8],
     held: usize,
-    sheet: &mut Sheet,
-    bytes: &mut Bytes,
-    numbers: &mut Numbers,
-    out: &mut [u8],
+    desk: &mut Desk,
 ) -> Kept
-    requires { (length chunk.now ≤ read_limit) × (number + read_limit + output_limit ≤ number_limit) × Ready hold.old held bytes.old numbers.old out.old × (refused < number) }
-    ensures { Drains chunk.now number refused hold.old held result.number result.refused hold.new result.held result.sent result.end × Ready hold.new result.held bytes.new numbers.new out.new }
+    requires { (length chunk.now ≤ read_limit) × (number + read_limit + output_limit ≤ number_limit) × Ready desk.old held × (refused < number) }
+    ensures { Drains chunk.now number refused desk.old.hold held result.number result.refused desk.new.hold result.held result.sent result.end × Ready desk.new result.held }
 {
     let mut from: usize = 0;
     let mut kept = Kept {
@@ -230,18 +221,7 @@ fn drain<W: Write, C: Clock>(
     };
     // a piece ends where the output is full: no step of one
     while from < chunk.len() {
-        let fed = feed(
-            chunk,
-            from,
-            kept.number,
-            kept.refused,
-            hold,
-            kept.held,
-            sheet,
-            bytes,
-            numbers,
-            out,
-        );
+        let fed = feed(chunk, from, kept.number, kept.refused, kept.held, desk);
         let taken = hand(
             clock,
             output,
@@ -250,14 +230,13 @@ fn drain<W: Write, C: Clock>(
             fed.next,
             kept.number,
             kept.refused,
-            hold,
             kept.held,
-            out,
+            desk,
             fed.put,
         );
         let sent = kept.sent + taken;
         if taken < fed.put {
-            let number = kept.number + lines_in(&out[..taken]);
+            let number = kept.number + lines_in(&desk.out[..taken]);
             return Kept {
                 number,
                 sent,
@@ -283,19 +262,15 @@ fn close<W: Write, C: Clock>(
     output: &mut W,
     number: u64,
     refused: u64,
-    hold: &[u8],
     held: usize,
-    sheet: &mut Sheet,
-    bytes: &mut Bytes,
-    numbers: &mut Numbers,
-    out: &mut [u8],
+    desk: &mut Desk,
 ) -> Kept
-    requires { Ready hold.now held bytes.old numbers.old out.old × (refused < number) }
-    ensures { ClosesAt number refused hold.now held result.number result.refused result.sent result.end }
+    requires { Ready desk.old held × (refused < number) }
+    ensures { ClosesAt number refused desk.old.hold held result.number result.refused result.sent result.end }
 {
-    let last = finish(number, hold, held, sheet, bytes, numbers, out);
+    let last = finish(number, held, desk);
     let put = last.next;
-    let taken = hand_last(clock, output, number, hold, held, out, put);
+    let taken = hand_last(clock, output, number, held, desk, put);
     if taken < put {
         Kept {
             number,
@@ -322,24 +297,16 @@ fn take_in<W: Write, C: Clock>(
     text: &[u8],
     number: u64,
     refused: u64,
-    hold: &mut [u8],
     held: usize,
-    sheet: &mut Sheet,
-    bytes: &mut Bytes,
-    numbers: &mut Numbers,
-    out: &mut [u8],
+    desk: &mut Desk,
 ) -> Kept
-    requires { (length text.now ≤ read_limit) × (number + read_limit + output_limit ≤ number_limit) × Ready hold.old held bytes.old numbers.old out.old × (refused < number) }
-    ensures { Turns text.now number refused hold.old held result.number result.refused hold.new result.held bytes.new numbers.new out.new result.sent result.end }
+    requires { (length text.now ≤ read_limit) × (number + read_limit + output_limit ≤ number_limit) × Ready desk.old held × (refused < number) }
+    ensures { Turns text.now number refused desk.old.hold held result.number result.refused desk.new result.held result.sent result.end }
 {
     if text.is_empty() {
-        close(
-            clock, output, number, refused, hold, held, sheet, bytes, numbers, out,
-        )
+        close(clock, output, number, refused, held, desk)
     } else {
-        drain(
-            clock, output, text, number, refused, hold, held, sheet, bytes, numbers, out,
-        )
+        drain(clock, output, text, number, refused, held, desk)
     }
 }
 
@@ -351,30 +318,14 @@ fn turn<R: Read, W: Write, C: Clock>(
     room: &mut [u8],
     number: u64,
     refused: u64,
-    hold: &mut [u8],
     held: usize,
-    sheet: &mut Sheet,
-    bytes: &mut Bytes,
-    numbers: &mut Numbers,
-    out: &mut [u8],
+    desk: &mut Desk,
 ) -> Kept
-    requires { (length room.old ≤ read_limit) × (number + read_limit + output_limit ≤ number_limit) × Ready hold.old held bytes.old numbers.old out.old × (refused < number) }
-    ensures { Turns room.new number refused hold.old held result.number result.refused hold.new result.held bytes.new numbers.new out.new result.sent result.end }
+    requires { (length room.old ≤ read_limit) × (number + read_limit + output_limit ≤ number_limit) × Ready desk.old held × (refused < number) }
+    ensures { Turns room.new number refused desk.old.hold held result.number result.refused desk.new result.held result.sent result.end }
 {
     match receive(clock, input, room) {
-        Some(n) => take_in(
-            clock,
-            output,
-            &room[..n],
-            number,
-            refused,
-            hold,
-            held,
-            sheet,
-            bytes,
-            numbers,
-            out,
-        ),
+        Some(n) => take_in(clock, output, &room[..n], number, refused, held, desk),
         None => Kept {
             number,
             refused,
@@ -391,13 +342,9 @@ fn serve<R: Read, W: Write, C: Clock>(
     input: &mut R,
     output: &mut W,
     room: &mut [u8],
-    hold: &mut [u8],
-    sheet: &mut Sheet,
-    bytes: &mut Bytes,
-    numbers: &mut Numbers,
-    out: &mut [u8],
+    desk: &mut Desk,
 ) -> Kept
-    requires { (length room.old ≤ read_limit) × Ready hold.old 0 bytes.old numbers.old out.old }
+    requires { (length room.old ≤ read_limit) × Ready desk.old 0 }
     ensures { 1 ≤ result.number }
 {
     let mut kept = Kept {
@@ -415,12 +362,8 @@ fn serve<R: Read, W: Write, C: Clock>(
             room,
             kept.number,
             kept.refused,
-            hold,
             kept.held,
-            sheet,
-            bytes,
-            numbers,
-            out,
+            desk,
         );
         if kept.end.is_some() {
             return kept;
@@ -450,38 +393,24 @@ pub fn run<R: Read, W: Write, E: Write, C: Clock>(
     errors: &mut E,
 ) {
     let mut room = [0u8; READ];
-    let mut hold = [0u8; HOLD];
-    let mut sheet = Sheet::new();
-    let mut bytes = [0u8; Tables::BYTES];
-    let mut numbers = [0i64; Tables::NUMBERS];
-    let mut out = [0u8; OUTPUT];
-    let last = serve(
-        clock,
-        input,
-        output,
-        &mut room,
-        &mut hold,
-        &mut sheet,
-        &mut bytes,
-        &mut numbers,
-        &mut out,
-    );
+    let mut desk = Desk::new();
+    let last = serve(clock, input, output, &mut room, &mut desk);
     let line = last.number - 1;
     match last.end {
-        Some(End::Whole) => tell_refused(clock, errors, last.refused, &mut out),
+        Some(End::Whole) => tell_refused(clock, errors, last.refused, &mut desk.out),
         Some(End::Unread) | None => tell(
             clock,
             errors,
             b"register: the input could not be read: it ends after line ",
             line,
-            &mut out,
+            &mut desk.out,
         ),
         Some(End::Unwritten) => tell(
             clock,
             errors,
             b"register: the output could not be written: it ends after line ",
             line,
-            &mut out,
+            &mut desk.out,
         ),
     }
 }

@@ -18,6 +18,8 @@ use Rattle.chunks.specs.Feeding.{hold_limit, Between, holding, kept, after, put,
 use Rattle.chunks.specs.Laws.{after_append, put_append, after_line, put_line, after_few}
 use Rattle.chunks.specs.TooLong.{entry_front_lem, refusal_front}
 use Rattle.chunks.specs.Cuts.{LineEnd, Cuts}
+use Rattle.sheet.specs.declared.Sheet.{Sheet}
+use Rattle.chunks.specs.declared.Desk.{Desk}
 use Rattle.chunks.specs.Lent.{Ready}
 use Rattle.chunks.specs.Puts.{Fronts, Runs, Feeds}
 use Rattle.chunks.proofs.Cutting.{part_none, part_more, part_join}
@@ -130,9 +132,9 @@ module _ (chunk : List ℕ) (from number refused : ℕ) (out₀ : List ℕ) (at 
         out_long = p.out_long ∙ w.out_long;
       }
 
-  pub goes_end : {next line total held n : ℕ} {bytes : List ℕ} {numbers : List ℤ} {out : List ℕ} → Goes next line total n bytes numbers out × (held ≡ 0)
-      → Runs chunk from number refused out₀ at next line total held out n × Clean bytes numbers
-  goes_end (w, none) = (
+  pub goes_end : {next line total held n : ℕ} {bytes : List ℕ} {numbers : List ℤ} {out hold hold₀ : List ℕ} → Goes next line total n bytes numbers out × (held ≡ 0) × (hold ≡ hold₀)
+      → Runs chunk from number refused out₀ at next line total held out n × Clean bytes numbers × (hold ≡ hold₀)
+  goes_end (w, none, untouched) = (
     record {
       past = w.past;
       inside = w.inside;
@@ -146,15 +148,19 @@ module _ (chunk : List ℕ) (from number refused : ℕ) (out₀ : List ℕ) (at 
       long = w.out_long;
     },
     w.clean,
+    untouched,
   )
 
 -- ---- a part of a chunk, taken in
+abbrev pub desk_of : List ℕ → Sheet → List ℕ → List ℤ → List ℕ → Desk
+desk_of hold sheet bytes numbers out = record { hold = hold; sheet = sheet; bytes = bytes; numbers = numbers; out = out }
+
 -- the line that is begun goes on past it
-pub feeds_held : {chunk : List ℕ} {from number refused : ℕ} {hold : List ℕ} {held : ℕ} {bytes : List ℕ} {numbers : List ℤ} {out holds : List ℕ} {n next : ℕ} {e : Bool}
-    → Ready hold held bytes numbers out → Cuts chunk from hold held holds n next e → e ≡ false
-    → Feeds chunk from number refused hold held out next number refused holds n out 0 × Ready holds n bytes numbers out
-feeds_held {chunk} {from} {number} {refused} {hold} {held} {bytes} {numbers} {out} {holds} {n} {next} w c q =
-    let m = subst (λ z. Cuts chunk from hold held holds n next z) q c in (
+pub feeds_held : {chunk : List ℕ} {from number refused : ℕ} {desk : Desk} {held : ℕ} {sheet : Sheet} {holds : List ℕ} {n next : ℕ} {e : Bool}
+    → Ready desk held → Cuts chunk from desk.hold held holds n next e → e ≡ false
+    → Feeds chunk from number refused desk.hold held desk.out next number refused holds n desk.out 0 × Ready (desk_of holds sheet desk.bytes desk.numbers desk.out) n
+feeds_held {chunk} {from} {number} {refused} {desk} {held} {sheet} {holds} {n} {next} w c q =
+    let m = subst (λ z. Cuts chunk from desk.hold held holds n next z) q c in (
       record {
         inside = m.inside;
         goes = λ l. omega (arith, m.whole refl);
@@ -168,14 +174,18 @@ feeds_held {chunk} {from} {number} {refused} {hold} {held} {bytes} {numbers} {ou
     )
 
 -- it ends, and lines behind it
-pub feeds_lines : {chunk : List ℕ} {from number refused : ℕ} {hold : List ℕ} {held : ℕ} {bytes : List ℕ} {numbers : List ℤ} {out holds : List ℕ} {n next : ℕ} {e : Bool}
-    → {out' : List ℕ} {at : ℕ} {so : Bool} {one : ℕ} {bytes' : List ℕ} {numbers' : List ℤ} {next' line total k : ℕ} {out'' : List ℕ} {m : ℕ} {bytes'' : List ℕ} {numbers'' : List ℤ}
-    → Ready hold held bytes numbers out → Cuts chunk from hold held holds n next e → e ≡ true
-    → Printed entry_limit out 0 (entry number (part 0 n holds)) out' at bytes numbers bytes' numbers' × (so ≡ is_refused (outcome (part 0 n holds)))
-    → (one ≡ cond so 1 0) × (one ≤ 1) → Runs chunk next (number + 1) (refused + one) out' at next' line total k out'' m → Clean bytes'' numbers''
-    → Feeds chunk from number refused hold held out next' line total holds k out'' m × Ready holds k bytes'' numbers'' out''
-feeds_lines {chunk} {from} {number} {refused} {hold} {held} {bytes} {numbers} {out} {holds} {n} {next} {e} {out'} {at} {so} {one} {bytes'} {numbers'} {next'} {line} {total} {k} {out''} {m} w c q printed o g clear =
+pub feeds_lines : {chunk : List ℕ} {from number refused : ℕ} {desk : Desk} {held : ℕ} {holds : List ℕ} {n next : ℕ} {e : Bool}
+    → {out' : List ℕ} {at : ℕ} {so : Bool} {one : ℕ} {bytes' : List ℕ} {numbers' : List ℤ} {next' line total k : ℕ} {left : Desk} {m : ℕ}
+    → Ready desk held → Cuts chunk from desk.hold held holds n next e → e ≡ true
+    → Printed entry_limit desk.out 0 (entry number (part 0 n holds)) out' at desk.bytes desk.numbers bytes' numbers' × (so ≡ is_refused (outcome (part 0 n holds)))
+    → (one ≡ cond so 1 0) × (one ≤ 1)
+    → Runs chunk next (number + 1) (refused + one) out' at next' line total k left.out m × Clean left.bytes left.numbers × (left.hold ≡ holds)
+    → Feeds chunk from number refused desk.hold held desk.out next' line total left.hold k left.out m × Ready left k
+feeds_lines {chunk} {from} {number} {refused} {desk} {held} {holds} {n} {next} {e} {out'} {at} {so} {one} {bytes'} {numbers'} {next'} {line} {total} {k} {left} {m} w c q printed o (g, clear, untouched) =
     let p = printed.0 in
+    let hold = desk.hold in
+    let out = desk.out in
+    let out'' = left.out in
     let d = subst (λ z. Cuts chunk from hold held holds n next z) q c in
     let s = holding number refused (take held hold) in
     let s' = holding (number + 1) (refused + one) [] in
@@ -197,18 +207,19 @@ feeds_lines {chunk} {from} {number} {refused} {hold} {held} {bytes} {numbers} {o
         goes = λ l. omega (arith, g.past, go);
         grows = omega (arith, g.grows);
         count = omega (arith, g.count, go);
-        stays = d.stays;
+        stays = ap (take held) untouched ∙ d.stays;
         leaves = after_more chunk from s next next' s' d.past g.past behind-it ∙ g.leaves
-            ∙ ap (λ z. holding line total (take z holds)) (sym g.none_held);
+            ∙ ap (λ z. holding line total (take z left.hold)) (sym g.none_held);
         puts = subst (λ z. Fronts z out out'' m) (sym text) (fronts out (first ++ more) out'' m holds_text ends-text (omega (arith, g.fits, p.out_long)) long);
       },
-      record { room = d.room; within = omega (arith, g.none_held); clean = clear; wide = omega (arith, w.wide, long); narrow = omega (arith, w.narrow, long) },
+      record { room = ap length untouched ∙ d.room; within = omega (arith, g.none_held); clean = clear; wide = omega (arith, w.wide, long); narrow = omega (arith, w.narrow, long) },
     )
 
 -- ---- the end of the input
-pub ends_none : (n : ℕ) (hold out : List ℕ) (held : ℕ) → held ≡ 0 → Fronts (last_put n (take held hold)) out out 0 × (false ≡ last_refused (take held hold))
+pub ends_none : (n : ℕ) (hold out : List ℕ) (held : ℕ) → held ≡ 0
+    → Fronts (last_put n (take held hold)) out out 0 × (false ≡ last_refused (take held hold)) × (hold ≡ hold)
 ends_none n hold out held e =
-    (record { fits = omega arith; front = ap (λ z. last_put n (take z hold)) (sym e); rest = refl }, ap (λ z. last_refused (take z hold)) (sym e))
+    (record { fits = omega arith; front = ap (λ z. last_put n (take z hold)) (sym e); rest = refl }, ap (λ z. last_refused (take z hold)) (sym e), refl)
 
 last_entry : (n : ℕ) (l : List ℕ) → 0 < length l → last_put n l ≡ entry n l
 last_entry n [] h = absurd (omega arith)
@@ -218,10 +229,14 @@ last_refusal : (l : List ℕ) → 0 < length l → last_refused l ≡ is_refused
 last_refusal [] h = absurd (omega arith)
 last_refusal (b ∷ l) h = refl
 
-pub ends_line : (n : ℕ) (hold out : List ℕ) (held r : ℕ) (so : Bool) (out' : List ℕ) (bytes : List ℕ) (numbers : List ℤ) (bytes' : List ℕ) (numbers' : List ℤ) → Ready hold held bytes numbers out → 0 < held
-    → Printed entry_limit out 0 (entry n (part 0 held hold)) out' r bytes numbers bytes' numbers' × (so ≡ is_refused (outcome (part 0 held hold)))
-    → Fronts (last_put n (take held hold)) out out' r × (so ≡ last_refused (take held hold))
-ends_line n hold out held r so out' bytes numbers bytes' numbers' w h q =
+pub ends_line : (n : ℕ) {desk : Desk} (held : ℕ) {r : ℕ} {so : Bool} {out' : List ℕ} {bytes' : List ℕ} {numbers' : List ℤ} → Ready desk held → 0 < held
+    → Printed entry_limit desk.out 0 (entry n (part 0 held desk.hold)) out' r desk.bytes desk.numbers bytes' numbers' × (so ≡ is_refused (outcome (part 0 held desk.hold)))
+    → Fronts (last_put n (take held desk.hold)) desk.out out' r × (so ≡ last_refused (take held desk.hold)) × (desk.hold ≡ desk.hold)
+ends_line n {desk} held {r} {so} {out'} {bytes'} {numbers'} w h q =
+    let hold = desk.hold in
+    let out = desk.out in
+    let bytes = desk.bytes in
+    let numbers = desk.numbers in
     let all = whole_front held hold in
     let p = subst (λ z. Printed entry_limit out 0 (entry n z) out' r bytes numbers bytes' numbers') all q.0 in
     let k : length (take held hold) ≡ held = length-take-le held hold (omega (arith, w.room, w.within)) in
@@ -229,4 +244,5 @@ ends_line n hold out held r so out' bytes numbers bytes' numbers' w h q =
       subst (λ z. Fronts z out out' r) (sym (last_entry n (take held hold) some))
           (fronts out (entry n (take held hold)) out' r p.puts.holds (omega (arith, p.puts.ends)) (omega (arith, p.puts.near, w.wide)) p.out_long),
       q.1 ∙ ap (λ z. is_refused (outcome z)) all ∙ sym (last_refusal (take held hold) some),
+      refl,
     )

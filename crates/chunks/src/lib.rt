@@ -26,6 +26,31 @@ pub const HOLD: usize = Tables::LINE + 1;
 
 pub const OUTPUT: usize = 3 * ENTRY;
 
+// What every part of a chunk is taken in with: the bytes that are held of a line, the sheet and the two areas in which a line is judged, and the output.
+#[derive(Drop)]
+pub struct Desk {
+    pub hold: [u8; HOLD],
+    pub sheet: Sheet,
+    pub bytes: Bytes,
+    pub numbers: Numbers,
+    pub out: [u8; OUTPUT],
+}
+
+impl Desk {
+    // An empty one.
+    pub fn new() -> Desk
+        ensures { Ready result 0 }
+    {
+        Desk {
+            hold: [0; HOLD],
+            sheet: Sheet::new(),
+            bytes: [0; Tables::BYTES],
+            numbers: [0; Tables::NUMBERS],
+            out: [0; OUTPUT],
+        }
+    }
+}
+
 // A chunk cut behind the end of a line, or at its own: where the next byte stands, and how many bytes are held of the line.
 #[derive(Clone, Copy, Debug, PartialEq, Eq)]
 struct Cut {
@@ -147,14 +172,11 @@ fn put_lines(
     from: usize,
     number: u64,
     refused: u64,
-    sheet: &mut Sheet,
-    bytes: &mut Bytes,
-    numbers: &mut Numbers,
-    out: &mut [u8],
+    desk: &mut Desk,
     at: usize,
 ) -> Fed
-    requires { (from ≤ length chunk.now) × (number + length chunk.now ≤ number_limit + from) × Clean bytes.old numbers.old × (at ≤ length out.old) × (refused < number) }
-    ensures { Runs chunk.now from number refused out.old at result.next result.number result.refused result.held out.new result.put × Clean bytes.new numbers.new }
+    requires { (from ≤ length chunk.now) × (number + length chunk.now ≤ number_limit + from) × Clean desk.old.bytes desk.old.numbers × (at ≤ length desk.old.out) × (refused < number) }
+    ensures { Runs chunk.now from number refused desk.old.out at result.next result.number result.refused result.held desk.new.out result.put × Clean desk.new.bytes desk.new.numbers × (desk.new.hold ≡ desk.old.hold) }
 {
     let mut fed = Fed {
         next: from,
@@ -164,13 +186,21 @@ fn put_lines(
         put: at,
     };
     // it goes on behind the end of a line, and stops where the output is full: no step of one
-    while ENTRY <= out.len() - fed.put {
+    while ENTRY <= desk.out.len() - fed.put {
         let end = line_end(chunk, fed.next);
         if end == chunk.len() {
             return fed;
         }
         let entered = put_part(
-            fed.number, chunk, fed.next, end, sheet, bytes, numbers, out, fed.put,
+            fed.number,
+            chunk,
+            fed.next,
+            end,
+            &mut desk.sheet,
+            &mut desk.bytes,
+            &mut desk.numbers,
+            &mut desk.out,
+            fed.put,
         );
         let total = fed.refused + one_if(entered.refused);
         fed = Fed {
@@ -191,31 +221,27 @@ pub fn feed(
     from: usize,
     number: u64,
     refused: u64,
-    hold: &mut [u8],
     held: usize,
-    sheet: &mut Sheet,
-    bytes: &mut Bytes,
-    numbers: &mut Numbers,
-    out: &mut [u8],
+    desk: &mut Desk,
 ) -> Fed
-    requires { (from ≤ length chunk.now) × (number + length chunk.now ≤ number_limit + from) × Ready hold.old held bytes.old numbers.old out.old × (refused < number) }
-    ensures { Feeds chunk.now from number refused hold.old held out.old result.next result.number result.refused hold.new result.held out.new result.put × Ready hold.new result.held bytes.new numbers.new out.new }
+    requires { (from ≤ length chunk.now) × (number + length chunk.now ≤ number_limit + from) × Ready desk.old held × (refused < number) }
+    ensures { Feeds chunk.now from number refused desk.old.hold held desk.old.out result.next result.number result.refused desk.new.hold result.held desk.new.out result.put × Ready desk.new result.held }
 {
-    let cut = gather(chunk, from, hold, held);
+    let cut = gather(chunk, from, &mut desk.hold, held);
     if cut.ended {
-        let entered = put_part(number, hold, 0, cut.held, sheet, bytes, numbers, out, 0);
+        let entered = put_part(
+            number,
+            &desk.hold,
+            0,
+            cut.held,
+            &mut desk.sheet,
+            &mut desk.bytes,
+            &mut desk.numbers,
+            &mut desk.out,
+            0,
+        );
         let total = refused + one_if(entered.refused);
-        put_lines(
-            chunk,
-            cut.next,
-            number + 1,
-            total,
-            sheet,
-            bytes,
-            numbers,
-            out,
-            entered.next,
-        )
+        put_lines(chunk, cut.next, number + 1, total, desk, entered.next)
     } else {
         Fed {
             next: cut.next,
@@ -228,17 +254,9 @@ pub fn feed(
 }
 
 // At the end of the input the entry of a line that is begun is put at the front of the output.
-pub fn finish(
-    number: u64,
-    hold: &[u8],
-    held: usize,
-    sheet: &mut Sheet,
-    bytes: &mut Bytes,
-    numbers: &mut Numbers,
-    out: &mut [u8],
-) -> Entered
-    requires { Ready hold.now held bytes.old numbers.old out.old }
-    ensures { Fronts (last_put number (take held hold.now)) out.old out.new result.next × (result.refused ≡ last_refused (take held hold.now)) }
+pub fn finish(number: u64, held: usize, desk: &mut Desk) -> Entered
+    requires { Ready desk.old held }
+    ensures { Fronts (last_put number (take held desk.old.hold)) desk.old.out desk.new.out result.next × (result.refused ≡ last_refused (take held desk.old.hold)) × (desk.new.hold ≡ desk.old.hold) }
 {
     if held == 0 {
         Entered {
@@ -246,6 +264,16 @@ pub fn finish(
             refused: false,
         }
     } else {
-        put_part(number, hold, 0, held, sheet, bytes, numbers, out, 0)
+        put_part(
+            number,
+            &desk.hold,
+            0,
+            held,
+            &mut desk.sheet,
+            &mut desk.bytes,
+            &mut desk.numbers,
+            &mut desk.out,
+            0,
+        )
     }
 }

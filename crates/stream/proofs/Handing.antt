@@ -4,12 +4,12 @@ use mathlib.Core.Bool.{Bool, true, false, false≢true}
 use mathlib.Core.List.{List, ◌++◌}
 use Prim.Native.Nat.{ℕ, ◌+◌, ◌-◌, ◌*◌, ◌<◌, ◌≤◌}
 use native.Mathlib.Omega.{arith}
-use lib.IntN.{ℤ}
 use lib.ListN.{length, take, length-append}
 use lib.Seq.{take-add, take_all, length-take-le}
 use Rattle.std.specs.Prelude.{Option, Some, None}
 use Rattle.chunks.specs.Feeding.{Between, holding, after, put, part}
 use Rattle.chunks.specs.Laws.{after_append, put_append}
+use Rattle.chunks.specs.declared.Desk.{Desk}
 use Rattle.chunks.specs.Lent.{output_limit, Ready}
 use Rattle.chunks.specs.Puts.{Fronts, Feeds}
 use Rattle.stream.specs.declared.End.{End}
@@ -51,44 +51,38 @@ unwritten : Some Unwritten ≡ Some Whole → ⊥
 unwritten q = false≢true (ap is_whole q)
 
 -- ---- a whole chunk: it is taken in up to `from`, and what is put out for that was taken
-module _ (chunk : List ℕ) (number refused : ℕ) (hold₀ : List ℕ) (held : ℕ) (out₀ : List ℕ) where
+module _ (chunk : List ℕ) (number refused : ℕ) (hold₀ : List ℕ) (held : ℕ) where
   abbrev begun : Between
   begun = holding number refused (take held hold₀)
 
-  pub record ChunkTaken (from line total n sent : ℕ) (hold : List ℕ) (bytes : List ℕ) (numbers : List ℤ) (out : List ℕ) : Type 0 where
+  pub record ChunkTaken (from line total n sent : ℕ) (desk : Desk) : Type 0 where
     pub inside : from ≤ length chunk
     pub grows : number ≤ line
     pub count : line ≤ number + from
-    pub leaves : after begun (take from chunk) ≡ holding line total (take n hold)
+    pub leaves : after begun (take from chunk) ≡ holding line total (take n desk.hold)
     pub given : sent ≡ length (put begun (take from chunk))
     pub low : sent ≤ from * output_limit
-    pub ready : Ready hold n bytes numbers out
-    pub hold_long : length hold ≡ length hold₀
-    pub out_long : length out ≡ length out₀
+    pub ready : Ready desk n
 
-  pub taken_start : {bytes : List ℕ} {numbers : List ℤ} → Ready hold₀ held bytes numbers out₀ → ChunkTaken 0 number refused held 0 hold₀ bytes numbers out₀
+  pub taken_start : {desk : Desk} → desk.hold ≡ hold₀ → Ready desk held → ChunkTaken 0 number refused held 0 desk
   unfolding after put
-  taken_start w =
+  taken_start e w =
       record {
         inside = omega arith;
         grows = omega arith;
         count = omega arith;
-        leaves = refl;
+        leaves = ap (λ z. holding number refused (take held z)) (sym e);
         given = refl;
         low = omega arith;
         ready = w;
-        hold_long = refl;
-        out_long = refl;
       }
 
-  pub taken_more : {from line total n sent : ℕ} {hold : List ℕ} {bytes : List ℕ} {numbers : List ℤ} {out : List ℕ} {next line' total' n' : ℕ}
-      → {hold' : List ℕ} {bytes' : List ℕ} {numbers' : List ℤ} {out' : List ℕ} {m took : ℕ}
-      → ChunkTaken from line total n sent hold bytes numbers out → from < length chunk → Feeds chunk from line total hold n out next line' total' hold' n' out' m
-      → Ready hold' n' bytes' numbers' out' → took ≤ m → m ≤ took → length out' ≡ length out
-      → ChunkTaken next line' total' n' (sent + took) hold' bytes' numbers' out'
-  taken_more {from} {line} {total} {n} {sent} {hold} {next = next} {m = m} w l f r a z o =
+  pub taken_more : {from line total n sent : ℕ} {desk : Desk} {next line' total' n' : ℕ} {desk' : Desk} {m took : ℕ} → ChunkTaken from line total n sent desk → from < length chunk
+      → Feeds chunk from line total desk.hold n desk.out next line' total' desk'.hold n' desk'.out m → Ready desk' n' → took ≤ m → m ≤ took
+      → ChunkTaken next line' total' n' (sent + took) desk'
+  taken_more {from} {line} {total} {n} {sent} {desk} {next = next} {m = m} w l f r a z =
       let go = f.goes l in
-      let s = holding line total (take n hold) in
+      let s = holding line total (take n desk.hold) in
       let e : next ≡ from + (next - from) = omega arith in
       let p : take next chunk ≡ take from chunk ++ part from next chunk = ap (λ y. take y chunk) e ∙ take-add from (next - from) chunk in
       let text : put begun (take next chunk) ≡ put begun (take from chunk) ++ put s (part from next chunk) =
@@ -102,12 +96,10 @@ module _ (chunk : List ℕ) (number refused : ℕ) (hold₀ : List ℕ) (held : 
         given = omega (arith, w.given, long, length-append (put begun (take from chunk)) (put s (part from next chunk)), ap length text);
         low = omega (arith, w.low, f.puts.fits, r.narrow);
         ready = r;
-        hold_long = r.room ∙ sym w.ready.room ∙ w.hold_long;
-        out_long = o ∙ w.out_long;
       }
 
-  pub taken_all : {from line total n sent : ℕ} {hold : List ℕ} {bytes : List ℕ} {numbers : List ℤ} {out : List ℕ} {end : Option End} → ChunkTaken from line total n sent hold bytes numbers out × (end ≡ None)
-      → length chunk ≤ from → Drains chunk number refused hold₀ held line total hold n sent end × Ready hold n bytes numbers out
+  pub taken_all : {from line total n sent : ℕ} {desk : Desk} {end : Option End} → ChunkTaken from line total n sent desk × (end ≡ None)
+      → length chunk ≤ from → Drains chunk number refused hold₀ held line total desk.hold n sent end × Ready desk n
   taken_all {from} (w, e) l =
       let all = sym (take_all from chunk l) in (
         record {
@@ -121,8 +113,7 @@ module _ (chunk : List ℕ) (number refused : ℕ) (hold₀ : List ℕ) (held : 
       )
 
 -- a write failed
-pub stays_ready : {hold : List ℕ} {held : ℕ} {bytes : List ℕ} {numbers : List ℤ} {out hold' : List ℕ} {held' : ℕ} {bytes' : List ℕ} {numbers' : List ℤ} {out' : List ℕ}
-    → Ready hold held bytes numbers out → Ready hold' held' bytes' numbers' out' → Ready hold' held bytes' numbers' out'
+pub stays_ready : {desk : Desk} {held : ℕ} {desk' : Desk} {held' : ℕ} → Ready desk held → Ready desk' held' → Ready desk' held
 stays_ready w r = record { room = r.room; within = w.within; clean = r.clean; wide = r.wide; narrow = r.narrow }
 
 pub drains_lost : {chunk : List ℕ} {number refused : ℕ} {hold : List ℕ} {held line total : ℕ} (ends : ℕ) {holds : List ℕ} {n sent : ℕ} → number ≤ line

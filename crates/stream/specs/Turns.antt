@@ -1,6 +1,7 @@
 -- One read, and what comes of it: a whole chunk taken in, the end of the input, or a failure.
-use Rattle.std.specs.Prelude.{◌≡◌, List, Option, Some, None, ℕ, ◌+◌, ◌<◌, ◌≤◌, ℤ, length, take}
+use Rattle.std.specs.Prelude.{◌≡◌, List, Option, Some, None, ℕ, ◌+◌, ◌<◌, ◌≤◌, length, take}
 use Rattle.std.specs.Io.KnownBytes.{Consumes, IsAtEnd, Keeps}
+use Rattle.chunks.specs.declared.Desk.{Desk}
 use Rattle.chunks.specs.Feeding.{holding, after, put, finished, refused_at_end}
 use Rattle.chunks.specs.Lent.{Ready}
 use Rattle.stream.specs.declared.End.{End}
@@ -37,12 +38,12 @@ pub record ClosesAt (number refused : ℕ) (hold : List ℕ) (held line total se
 
 -- so many bytes were read, `got`, and the room holds them: they are taken in, and all that is put out for them was taken; or the input is at its end;
 -- unless a read or a write failed
-pub record Turns (room : List ℕ) (number refused : ℕ) (hold : List ℕ) (held line total : ℕ) (holds : List ℕ) (n : ℕ) (bytes : List ℕ) (numbers : List ℤ) (out : List ℕ) (sent : ℕ) (end : Option End) : Type 0 where
+pub record Turns (room : List ℕ) (number refused : ℕ) (hold : List ℕ) (held line total : ℕ) (desk : Desk) (n sent : ℕ) (end : Option End) : Type 0 where
   pub grows : number ≤ line
   pub count : end ≡ None → line ≤ number + read_limit
-  pub ready : end ≡ None → Ready holds n bytes numbers out
+  pub ready : end ≡ None → Ready desk n
   pub got : ℕ
-  pub leaves : end ≡ None → after (holding number refused (take held hold)) (take got room) ≡ holding line total (take n holds)
+  pub leaves : end ≡ None → after (holding number refused (take held hold)) (take got room) ≡ holding line total (take n desk.hold)
   pub taken : end ≡ None → sent ≡ length (put (holding number refused (take held hold)) (take got room))
   pub closed : end ≡ Some Whole → sent ≡ length (finished (holding number refused (take held hold)))
   pub counted : end ≡ Some Whole → total ≡ refused_at_end (holding number refused (take held hold))

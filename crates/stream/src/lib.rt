@@ -11,7 +11,7 @@
 // there are as many as among the lines of what was read (`refused_in_one`).
 #![tactic(auto)]
 
-ghost use Rattle.std.specs.Prelude.{◌≡◌, ◌+◌, ◌<◌, ◌≤◌, drop, length, take};
+ghost use Rattle.std.specs.Prelude.{◌≡◌, ◌+◌, ◌<◌, ◌≤◌, length, take};
 ghost use Rattle.std.specs.Io.KnownBytes.{Appends};
 ghost use Rattle.chunks.specs.Lent.{number_limit, output_limit, Ready};
 ghost use Rattle.chunks.specs.Puts.{Fronts};
@@ -19,11 +19,8 @@ ghost use Rattle.stream.specs.Owed.{Owed, OwedLast};
 ghost use Rattle.stream.specs.Told.{line_ends, notice_room, noticed};
 ghost use Rattle.stream.specs.Turns.{read_limit, Received, Brought, Drains, ClosesAt, Turns};
 
-use areas::{Bytes, Numbers};
-use chunks::{HOLD, OUTPUT, feed, finish, one_if};
+use chunks::{Desk, feed, finish, one_if};
 use entries::NEWLINE;
-use scope::tables::Tables;
-use sheet::Sheet;
 use std::io::{Error, ErrorKind, Read, Write};
 use std::rt::Clock;
 use std::thread;
@@ -71,20 +68,13 @@ fn again<C: Clock>(clock: &C, error: &Error) -> bool {
     }
 }
 
-// How many bytes a write took of those from a place up to another; none, where it failed.
-fn send_some<W: Write, C: Clock>(
-    clock: &C,
-    to: &mut W,
-    text: &[u8],
-    from: usize,
-    end: usize,
-) -> usize
-    requires { (from ≤ end) × (end ≤ length text.now) }
-    ensures within { from + result ≤ end }
-    ensures written { Appends (W.contents to.old) (W.contents to.new) (take result (drop from text.now)) }
+// How many bytes of the text a write took; none, where it failed.
+fn send_some<W: Write, C: Clock>(clock: &C, to: &mut W, text: &[u8]) -> usize
+    ensures within { result ≤ length text.now }
+    ensures written { Appends (W.contents to.old) (W.contents to.new) (take result text.now) }
 {
     for _ in 0..PATIENCE {
-        match to.write(&text[from..end]) {
+        match to.write(text) {
             Ok(got) => return got,
             Err(error) => {
                 if !again(clock, &error) {
@@ -96,16 +86,15 @@ fn send_some<W: Write, C: Clock>(
     0
 }
 
-// How many of the first n bytes were taken: all of them, where no write failed.
-fn send<W: Write, C: Clock>(clock: &C, to: &mut W, text: &[u8], n: usize) -> usize
-    requires { n ≤ length text.now }
-    ensures within { result ≤ n }
+// How many bytes of the text were taken: all of them, where no write failed.
+fn send<W: Write, C: Clock>(clock: &C, to: &mut W, text: &[u8]) -> usize
+    ensures within { result ≤ length text.now }
     ensures written { Appends (W.contents to.old) (W.contents to.new) (take result text.now) }
 {
     let mut done: usize = 0;
     // each write takes as many bytes as it likes: no step of one
-    while done < n {
-        let got = send_some(clock, to, text, done, n);
+    while done < text.len() {
+        let got = send_some(clock, to, &text[done..]);
         if got == 0 {
             return done;
         }
@@ -124,16 +113,15 @@ fn hand<W: Write, C: Clock>(
     next: usize,
     number: u64,
     refused: u64,
-    hold: &[u8],
     held: usize,
-    out: &[u8],
+    desk: &Desk,
     n: usize,
 ) -> usize
-    requires { Owed chunk.now from next number refused hold.now held out.now n }
+    requires { Owed chunk.now from next number refused desk.now.hold held desk.now.out n }
     ensures within { result ≤ n }
-    ensures written { Appends (W.contents output.old) (W.contents output.new) (take result out.now) }
+    ensures written { Appends (W.contents output.old) (W.contents output.new) (take result desk.now.out) }
 {
-    send(clock, output, out, n)
+    send(clock, output, &desk.out[..n])
 }
 
 // The same at the end of the input.
@@ -141,16 +129,15 @@ fn hand_last<W: Write, C: Clock>(
     clock: &C,
     output: &mut W,
     number: u64,
-    hold: &[u8],
     held: usize,
-    out: &[u8],
+    desk: &Desk,
     n: usize,
 ) -> usize
-    requires { OwedLast number hold.now held out.now n }
+    requires { OwedLast number desk.now.hold held desk.now.out n }
     ensures within { result ≤ n }
-    ensures written { Appends (W.contents output.old) (W.contents output.new) (take result out.now) }
+    ensures written { Appends (W.contents output.old) (W.contents output.new) (take result desk.now.out) }
 {
-    send(clock, output, out, n)
+    send(clock, output, &desk.out[..n])
 }
 
 // What a read brought: so many bytes at the front of the room; none, where it failed.
@@ -173,13 +160,12 @@ fn receive<R: Read, C: Clock>(clock: &C, input: &mut R, room: &mut [u8]) -> Opti
 
 // ---- a failure, told
 
-// How many lines end among the first n bytes.
-fn lines_in(text: &[u8], n: usize) -> u64
-    requires { n ≤ length text.now }
-    ensures { (result ≡ line_ends (take n text.now)) × (result ≤ n) }
+// How many lines end in a text.
+fn lines_in(text: &[u8]) -> u64
+    ensures { (result ≡ line_ends text.now) × (result ≤ length text.now) }
 {
     let mut ends: u64 = 0;
-    for &b in &text[..n] {
+    for &b in text {
         ends += one_if(b == NEWLINE);
     }
     ends
@@ -197,24 +183,17 @@ fn notice(words: &[u8], number: u64, out: &mut [u8]) -> usize
 }
 
 // A notice to standard error. Whether it is taken is not asked.
-fn say<W: Write, C: Clock>(
-    clock: &C,
-    errors: &mut W,
-    words: &[u8],
-    number: u64,
-    out: &[u8],
-    n: usize,
-)
-    requires { (n ≤ length out.now) × (take n out.now ≡ noticed words.now number) }
+fn say<W: Write, C: Clock>(clock: &C, errors: &mut W, words: &[u8], number: u64, text: &[u8])
+    requires { text.now ≡ noticed words.now number }
 {
-    send(clock, errors, out, n);
+    send(clock, errors, text);
 }
 
 fn tell<W: Write, C: Clock>(clock: &C, errors: &mut W, words: &[u8], number: u64, out: &mut [u8])
     requires { (length words.now + notice_room ≤ length out.old) × (length out.old ≤ output_limit) }
 {
     let n = notice(words, number, out);
-    say(clock, errors, words, number, out, n);
+    say(clock, errors, words, number, &out[..n]);
 }
 
 // ---- the program
@@ -226,15 +205,11 @@ fn drain<W: Write, C: Clock>(
     chunk: &[u8],
     number: u64,
     refused: u64,
-    hold: &mut [u8],
     held: usize,
-    sheet: &mut Sheet,
-    bytes: &mut Bytes,
-    numbers: &mut Numbers,
-    out: &mut [u8],
+    desk: &mut Desk,
 ) -> Kept
-    requires { (length chunk.now ≤ read_limit) × (number + read_limit + output_limit ≤ number_limit) × Ready hold.old held bytes.old numbers.old out.old × (refused < number) }
-    ensures { Drains chunk.now number refused hold.old held result.number result.refused hold.new result.held result.sent result.end × Ready hold.new result.held bytes.new numbers.new out.new }
+    requires { (length chunk.now ≤ read_limit) × (number + read_limit + output_limit ≤ number_limit) × Ready desk.old held × (refused < number) }
+    ensures { Drains chunk.now number refused desk.old.hold held result.number result.refused desk.new.hold result.held result.sent result.end × Ready desk.new result.held }
 {
     let mut from: usize = 0;
     let mut kept = Kept {
@@ -246,18 +221,7 @@ fn drain<W: Write, C: Clock>(
     };
     // a piece ends where the output is full: no step of one
     while from < chunk.len() {
-        let fed = feed(
-            chunk,
-            from,
-            kept.number,
-            kept.refused,
-            hold,
-            kept.held,
-            sheet,
-            bytes,
-            numbers,
-            out,
-        );
+        let fed = feed(chunk, from, kept.number, kept.refused, kept.held, desk);
         let taken = hand(
             clock,
             output,
@@ -266,14 +230,13 @@ fn drain<W: Write, C: Clock>(
             fed.next,
             kept.number,
             kept.refused,
-            hold,
             kept.held,
-            out,
+            desk,
             fed.put,
         );
         let sent = kept.sent + taken;
         if taken < fed.put {
-            let number = kept.number + lines_in(out, taken);
+            let number = kept.number + lines_in(&desk.out[..taken]);
             return Kept {
                 number,
                 sent,
@@ -299,19 +262,15 @@ fn close<W: Write, C: Clock>(
     output: &mut W,
     number: u64,
     refused: u64,
-    hold: &[u8],
     held: usize,
-    sheet: &mut Sheet,
-    bytes: &mut Bytes,
-    numbers: &mut Numbers,
-    out: &mut [u8],
+    desk: &mut Desk,
 ) -> Kept
-    requires { Ready hold.now held bytes.old numbers.old out.old × (refused < number) }
-    ensures { ClosesAt number refused hold.now held result.number result.refused result.sent result.end }
+    requires { Ready desk.old held × (refused < number) }
+    ensures { ClosesAt number refused desk.old.hold held result.number result.refused result.sent result.end }
 {
-    let last = finish(number, hold, held, sheet, bytes, numbers, out);
+    let last = finish(number, held, desk);
     let put = last.next;
-    let taken = hand_last(clock, output, number, hold, held, out, put);
+    let taken = hand_last(clock, output, number, held, desk, put);
     if taken < put {
         Kept {
             number,
@@ -335,38 +294,19 @@ fn close<W: Write, C: Clock>(
 fn take_in<W: Write, C: Clock>(
     clock: &C,
     output: &mut W,
-    room: &[u8],
-    n: usize,
+    text: &[u8],
     number: u64,
     refused: u64,
-    hold: &mut [u8],
     held: usize,
-    sheet: &mut Sheet,
-    bytes: &mut Bytes,
-    numbers: &mut Numbers,
-    out: &mut [u8],
+    desk: &mut Desk,
 ) -> Kept
-    requires { (n ≤ length room.now) × (length room.now ≤ read_limit) × (number + read_limit + output_limit ≤ number_limit) × Ready hold.old held bytes.old numbers.old out.old × (refused < number) }
-    ensures { Turns room.now number refused hold.old held result.number result.refused hold.new result.held bytes.new numbers.new out.new result.sent result.end }
+    requires { (length text.now ≤ read_limit) × (number + read_limit + output_limit ≤ number_limit) × Ready desk.old held × (refused < number) }
+    ensures { Turns text.now number refused desk.old.hold held result.number result.refused desk.new result.held result.sent result.end }
 {
-    if n == 0 {
-        close(
-            clock, output, number, refused, hold, held, sheet, bytes, numbers, out,
-        )
+    if text.is_empty() {
+        close(clock, output, number, refused, held, desk)
     } else {
-        drain(
-            clock,
-            output,
-            &room[..n],
-            number,
-            refused,
-            hold,
-            held,
-            sheet,
-            bytes,
-            numbers,
-            out,
-        )
+        drain(clock, output, text, number, refused, held, desk)
     }
 }
 
@@ -378,20 +318,14 @@ fn turn<R: Read, W: Write, C: Clock>(
     room: &mut [u8],
     number: u64,
     refused: u64,
-    hold: &mut [u8],
     held: usize,
-    sheet: &mut Sheet,
-    bytes: &mut Bytes,
-    numbers: &mut Numbers,
-    out: &mut [u8],
+    desk: &mut Desk,
 ) -> Kept
-    requires { (length room.old ≤ read_limit) × (number + read_limit + output_limit ≤ number_limit) × Ready hold.old held bytes.old numbers.old out.old × (refused < number) }
-    ensures { Turns room.new number refused hold.old held result.number result.refused hold.new result.held bytes.new numbers.new out.new result.sent result.end }
+    requires { (length room.old ≤ read_limit) × (number + read_limit + output_limit ≤ number_limit) × Ready desk.old held × (refused < number) }
+    ensures { Turns room.new number refused desk.old.hold held result.number result.refused desk.new result.held result.sent result.end }
 {
     match receive(clock, input, room) {
-        Some(n) => take_in(
-            clock, output, room, n, number, refused, hold, held, sheet, bytes, numbers, out,
-        ),
+        Some(n) => take_in(clock, output, &room[..n], number, refused, held, desk),
         None => Kept {
             number,
             refused,
@@ -408,13 +342,9 @@ fn serve<R: Read, W: Write, C: Clock>(
     input: &mut R,
     output: &mut W,
     room: &mut [u8],
-    hold: &mut [u8],
-    sheet: &mut Sheet,
-    bytes: &mut Bytes,
-    numbers: &mut Numbers,
-    out: &mut [u8],
+    desk: &mut Desk,
 ) -> Kept
-    requires { (length room.old ≤ read_limit) × Ready hold.old 0 bytes.old numbers.old out.old }
+    requires { (length room.old ≤ read_limit) × Ready desk.old 0 }
     ensures { 1 ≤ result.number }
 {
     let mut kept = Kept {
@@ -432,12 +362,8 @@ fn serve<R: Read, W: Write, C: Clock>(
             room,
             kept.number,
             kept.refused,
-            hold,
             kept.held,
-            sheet,
-            bytes,
-            numbers,
-            out,
+            desk,
         );
         if kept.end.is_some() {
             return kept;
@@ -467,38 +393,24 @@ pub fn run<R: Read, W: Write, E: Write, C: Clock>(
     errors: &mut E,
 ) {
     let mut room = [0u8; READ];
-    let mut hold = [0u8; HOLD];
-    let mut sheet = Sheet::new();
-    let mut bytes = [0u8; Tables::BYTES];
-    let mut numbers = [0i64; Tables::NUMBERS];
-    let mut out = [0u8; OUTPUT];
-    let last = serve(
-        clock,
-        input,
-        output,
-        &mut room,
-        &mut hold,
-        &mut sheet,
-        &mut bytes,
-        &mut numbers,
-        &mut out,
-    );
+    let mut desk = Desk::new();
+    let last = serve(clock, input, output, &mut room, &mut desk);
     let line = last.number - 1;
     match last.end {
-        Some(End::Whole) => tell_refused(clock, errors, last.refused, &mut out),
+        Some(End::Whole) => tell_refused(clock, errors, last.refused, &mut desk.out),
         Some(End::Unread) | None => tell(
             clock,
             errors,
             b"register: the input could not be read: it ends after line ",
             line,
-            &mut out,
+            &mut desk.out,
         ),
         Some(End::Unwritten) => tell(
             clock,
             errors,
             b"register: the output could not be written: it ends after line ",
             line,
-            &mut out,
+            &mut desk.out,
         ),
     }
 }

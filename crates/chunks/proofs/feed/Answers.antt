@@ -32,5 +32,4 @@ put_lines-requires c =
 pub returns-then-cut : goal.returns-then-cut
 returns-then-cut c =
     feeds_lines c.requires.2 c.gather-cut.ensures c.if-cut.true c.put_part-entered.ensures c.one_if.ensures
-    c.put_lines.ensures.0
-    c.put_lines.ensures.1
+    c.put_lines.ensures

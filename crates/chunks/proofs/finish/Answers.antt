@@ -12,4 +12,4 @@ put_part-requires c =
     (omega arith, omega (arith, w.within, w.room), w.clean, omega (arith, w.wide))
 
 pub returns-else-held-eq0 : goal.returns-else-held-eq0
-returns-else-held-eq0 c = ends_line _ _ _ _ _ _ _ _ _ _ _ c.requires (omega (arith, c.if-held-eq0.false)) c.put_part.ensures
+returns-else-held-eq0 c = ends_line _ _ c.requires (omega (arith, c.if-held-eq0.false)) c.put_part.ensures

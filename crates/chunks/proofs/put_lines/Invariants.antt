@@ -5,8 +5,8 @@ use lib.ListN.{length}
 use Rattle.chunks.proofs.Putting.{Goes}
 use Rattle.chunks.proofs.put_lines.Given as goal
 
-abbrev pub invariant-loop-out : goal.invariant-loop-out
-invariant-loop-out l = Goes l.chunk l.from l.number l.refused l.initial.out l.at l.fed.next l.fed.number l.fed.refused l.fed.put l.bytes l.numbers l.out × (l.fed.held ≡ 0)
+abbrev pub invariant-loop-fed : goal.invariant-loop-fed
+invariant-loop-fed l = Goes l.chunk l.from l.number l.refused l.initial.desk.out l.at l.fed.next l.fed.number l.fed.refused l.fed.put l.desk.bytes l.desk.numbers l.desk.out × (l.fed.held ≡ 0) × (l.desk.hold ≡ l.initial.desk.hold)
 
-abbrev pub decreases-loop-out : goal.decreases-loop-out
-decreases-loop-out l = length l.chunk - l.fed.next
+abbrev pub decreases-loop-fed : goal.decreases-loop-fed
+decreases-loop-fed l = length l.chunk - l.fed.next

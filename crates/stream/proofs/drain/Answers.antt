@@ -1,13 +1,13 @@
 -- A piece is fed, it is owed, and what of it is taken is counted; where a write fails, so are the lines that are out.
 use mathlib.Core.Path.{refl}
 use native.Mathlib.Omega.{arith}
-use borrow.Author.Rules.{rules}
+use lib.ListN.{length-take}
 use Rattle.chunks.proofs.Putting.{stays_few}
 use Rattle.stream.proofs.Handing.{owed, taken_start, taken_more, taken_all, stays_ready, drains_lost}
 use Rattle.stream.proofs.drain.Goals as goal
 
 pub loop-from-init : goal.loop-from-init
-loop-from-init g c = (taken_start _ _ _ _ _ _ c.requires.2, refl)
+loop-from-init g c = (taken_start _ _ _ _ _ refl c.requires.2, refl)
 
 pub feed-fed-requires : goal.feed-fed-requires
 feed-fed-requires g c =
@@ -26,7 +26,7 @@ overflow_add-number g c =
     let w = c.loop-from.invariant.0 in
     let f = c.feed-fed.ensures in
     let p = c.requires in
-    omega (arith, w.count, w.inside, f.0.puts.fits, f.1.narrow, c.if-taken-fed.true, c.lines_in.ensures.1, p.0, p.1)
+    omega (arith, w.count, w.inside, f.0.puts.fits, f.1.narrow, c.if-taken-fed.true, c.lines_in.ensures.1, length-take c.hand-taken.result c.feed-fed.new.desk.out, p.0, p.1)
 
 pub returns-then-taken-fed : goal.returns-then-taken-fed
 returns-then-taken-fed g c =
@@ -46,7 +46,7 @@ loop-from-smaller g c =
 pub loop-from-preserved : goal.loop-from-preserved
 loop-from-preserved g c =
     let f = c.feed-fed.ensures in
-    (taken_more _ _ _ _ _ _ c.loop-from.invariant.0 c.loop-from-test.true f.0 f.1 c.hand-taken.ensures.within c.if-taken-fed.false (search rules), refl)
+    (taken_more _ _ _ _ _ c.loop-from.invariant.0 c.loop-from-test.true f.0 f.1 c.hand-taken.ensures.within c.if-taken-fed.false, refl)
 
 pub returns : goal.returns
-returns g c = taken_all _ _ _ _ _ _ c.loop-from.invariant c.loop-from-test.false
+returns g c = taken_all _ _ _ _ _ c.loop-from.invariant c.loop-from-test.false

@@ -8,9 +8,8 @@ use Rattle.stream.proofs.drain.Given as goal
 
 abbrev pub invariant-loop-from : goal.invariant-loop-from
 invariant-loop-from g l =
-    let i = l.initial in
     let k = l.kept in
-    ChunkTaken l.chunk l.number l.refused i.hold l.held i.out l.from k.number k.refused k.held k.sent l.hold l.bytes l.numbers l.out × (k.end ≡ None)
+    ChunkTaken l.chunk l.number l.refused l.initial.desk.hold l.held l.from k.number k.refused k.held k.sent l.desk × (k.end ≡ None)
 
 abbrev pub decreases-loop-from : goal.decreases-loop-from
 decreases-loop-from g l = length l.chunk - l.from

@@ -5,7 +5,7 @@ use Rattle.stream.proofs.Turning.{serves_start, serves_more}
 use Rattle.stream.proofs.serve.Goals as goal
 
 pub loop-turns-init : goal.loop-turns-init
-loop-turns-init g c = serves_start _ _ _ c.requires.0 c.requires.1
+loop-turns-init g c = serves_start _ c.requires.0 c.requires.1
 
 pub turn-kept-requires : goal.turn-kept-requires
 turn-kept-requires g c =
@@ -17,8 +17,7 @@ returns-then-is_some g c = omega (arith, c.loop-turns.invariant.few, c.turn-kept
 
 pub loop-turns-preserved : goal.loop-turns-preserved
 loop-turns-preserved g c =
-    serves_more _ _ _ c.loop-turns.invariant c.turn-kept.ensures (search rules) (search rules)
-    (search rules) (search rules)
+    serves_more _ c.loop-turns.invariant c.turn-kept.ensures (search rules) (search rules)
 
 pub returns : goal.returns
 returns g c = omega (arith, c.loop-turns.invariant.few)

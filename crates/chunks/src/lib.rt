@@ -130,14 +130,19 @@ fn gather(chunk: &[u8], from: usize, hold: &mut [u8], held: usize) -> Cut
     }
 }
 
-// How far a chunk is taken in; the number of the line that is begun or comes next, how many lines before it were refused, and how many bytes are held of it;
-// how many bytes are put.
+// The number of the line that is begun or comes next, how many lines before it were refused, and how many bytes are held of it.
 #[derive(Clone, Copy, Debug, PartialEq, Eq)]
-pub struct Fed {
-    pub next: usize,
+pub struct State {
     pub number: u64,
     pub refused: u64,
     pub held: usize,
+}
+
+// How far a chunk is taken in, the state there, and how many bytes are put.
+#[derive(Clone, Copy, Debug, PartialEq, Eq)]
+pub struct Fed {
+    pub next: usize,
+    pub state: State,
     pub put: usize,
 }
 
@@ -167,22 +172,13 @@ pub fn one_if(so: bool) -> u64
 }
 
 // The entries of the lines that lie whole in the chunk from a place on, while the output has room for one more.
-fn put_lines(
-    chunk: &[u8],
-    from: usize,
-    number: u64,
-    refused: u64,
-    desk: &mut Desk,
-    at: usize,
-) -> Fed
-    requires { (from ≤ length chunk.now) × (number + length chunk.now ≤ number_limit + from) × Clean desk.old.bytes desk.old.numbers × (at ≤ length desk.old.out) × (refused < number) }
-    ensures { Runs chunk.now from number refused desk.old.out at result.next result.number result.refused result.held desk.new.out result.put × Clean desk.new.bytes desk.new.numbers × (desk.new.hold ≡ desk.old.hold) }
+fn put_lines(chunk: &[u8], from: usize, state: State, desk: &mut Desk, at: usize) -> Fed
+    requires { (from ≤ length chunk.now) × (state.number + length chunk.now ≤ number_limit + from) × Clean desk.old.bytes desk.old.numbers × (at ≤ length desk.old.out) × (state.refused < state.number) × (state.held ≡ 0) }
+    ensures { Runs chunk.now from state.number state.refused desk.old.out at result.next result.state.number result.state.refused result.state.held desk.new.out result.put × Clean desk.new.bytes desk.new.numbers × (desk.new.hold ≡ desk.old.hold) }
 {
     let mut fed = Fed {
         next: from,
-        number,
-        refused,
-        held: 0,
+        state,
         put: at,
     };
     // it goes on behind the end of a line, and stops where the output is full: no step of one
@@ -192,7 +188,7 @@ fn put_lines(
             return fed;
         }
         let entered = put_part(
-            fed.number,
+            fed.state.number,
             chunk,
             fed.next,
             end,
@@ -202,13 +198,16 @@ fn put_lines(
             &mut desk.out,
             fed.put,
         );
-        let total = fed.refused + one_if(entered.refused);
+        let number = fed.state.number + 1;
+        let refused = fed.state.refused + one_if(entered.refused);
         fed = Fed {
             next: end + 1,
-            number: fed.number + 1,
-            refused: total,
+            state: State {
+                number,
+                refused,
+                held: 0,
+            },
             put: entered.next,
-            ..fed
         };
     }
     fed
@@ -216,21 +215,14 @@ fn put_lines(
 
 // Takes a chunk in from a place on. The line that is begun goes on to the chunk's end; or it ends there, and its entry and those of the lines behind it
 // are put at the front of the output, while it has room. What was held before stays where it is.
-pub fn feed(
-    chunk: &[u8],
-    from: usize,
-    number: u64,
-    refused: u64,
-    held: usize,
-    desk: &mut Desk,
-) -> Fed
-    requires { (from ≤ length chunk.now) × (number + length chunk.now ≤ number_limit + from) × Ready desk.old held × (refused < number) }
-    ensures { Feeds chunk.now from number refused desk.old.hold held desk.old.out result.next result.number result.refused desk.new.hold result.held desk.new.out result.put × Ready desk.new result.held }
+pub fn feed(chunk: &[u8], from: usize, state: State, desk: &mut Desk) -> Fed
+    requires { (from ≤ length chunk.now) × (state.number + length chunk.now ≤ number_limit + from) × Ready desk.old state.held × (state.refused < state.number) }
+    ensures { Feeds chunk.now from state.number state.refused desk.old.hold state.held desk.old.out result.next result.state.number result.state.refused desk.new.hold result.state.held desk.new.out result.put × Ready desk.new result.state.held }
 {
-    let cut = gather(chunk, from, &mut desk.hold, held);
+    let cut = gather(chunk, from, &mut desk.hold, state.held);
     if cut.ended {
         let entered = put_part(
-            number,
+            state.number,
             &desk.hold,
             0,
             cut.held,
@@ -240,35 +232,42 @@ pub fn feed(
             &mut desk.out,
             0,
         );
-        let total = refused + one_if(entered.refused);
-        put_lines(chunk, cut.next, number + 1, total, desk, entered.next)
+        let number = state.number + 1;
+        let refused = state.refused + one_if(entered.refused);
+        let behind = State {
+            number,
+            refused,
+            held: 0,
+        };
+        put_lines(chunk, cut.next, behind, desk, entered.next)
     } else {
         Fed {
             next: cut.next,
-            number,
-            refused,
-            held: cut.held,
+            state: State {
+                held: cut.held,
+                ..state
+            },
             put: 0,
         }
     }
 }
 
 // At the end of the input the entry of a line that is begun is put at the front of the output.
-pub fn finish(number: u64, held: usize, desk: &mut Desk) -> Entered
-    requires { Ready desk.old held }
-    ensures { Fronts (last_put number (take held desk.old.hold)) desk.old.out desk.new.out result.next × (result.refused ≡ last_refused (take held desk.old.hold)) × (desk.new.hold ≡ desk.old.hold) }
+pub fn finish(state: State, desk: &mut Desk) -> Entered
+    requires { Ready desk.old state.held }
+    ensures { Fronts (last_put state.number (take state.held desk.old.hold)) desk.old.out desk.new.out result.next × (result.refused ≡ last_refused (take state.held desk.old.hold)) × (desk.new.hold ≡ desk.old.hold) }
 {
-    if held == 0 {
+    if state.held == 0 {
         Entered {
             next: 0,
             refused: false,
         }
     } else {
         put_part(
-            number,
+            state.number,
             &desk.hold,
             0,
-            held,
+            state.held,
             &mut desk.sheet,
             &mut desk.bytes,
             &mut desk.numbers,

@@ -19,7 +19,7 @@ ghost use Rattle.stream.specs.Owed.{Owed, OwedLast};
 ghost use Rattle.stream.specs.Told.{line_ends, notice_room, noticed};
 ghost use Rattle.stream.specs.Turns.{read_limit, Received, Brought, Drains, ClosesAt, Turns};
 
-use chunks::{Desk, feed, finish, one_if};
+use chunks::{Desk, State, feed, finish, one_if};
 use entries::NEWLINE;
 use std::io::{Error, ErrorKind, Read, Write};
 use std::rt::Clock;
@@ -47,9 +47,7 @@ enum End {
 // of the first line whose entry is not out, and of a whole input all refused lines are counted.
 #[derive(Clone, Copy, Debug, PartialEq, Eq)]
 struct Kept {
-    number: u64,
-    refused: u64,
-    held: usize,
+    state: State,
     sent: usize,
     end: Option<End>,
 }
@@ -111,13 +109,11 @@ fn hand<W: Write, C: Clock>(
     chunk: &[u8],
     from: usize,
     next: usize,
-    number: u64,
-    refused: u64,
-    held: usize,
+    state: State,
     desk: &Desk,
     n: usize,
 ) -> usize
-    requires { Owed chunk.now from next number refused desk.now.hold held desk.now.out n }
+    requires { Owed chunk.now from next state.number state.refused desk.now.hold state.held desk.now.out n }
     ensures within { result ≤ n }
     ensures written { Appends (W.contents output.old) (W.contents output.new) (take result desk.now.out) }
 {
@@ -128,12 +124,11 @@ fn hand<W: Write, C: Clock>(
 fn hand_last<W: Write, C: Clock>(
     clock: &C,
     output: &mut W,
-    number: u64,
-    held: usize,
+    state: State,
     desk: &Desk,
     n: usize,
 ) -> usize
-    requires { OwedLast number desk.now.hold held desk.now.out n }
+    requires { OwedLast state.number desk.now.hold state.held desk.now.out n }
     ensures within { result ≤ n }
     ensures written { Appends (W.contents output.old) (W.contents output.new) (take result desk.now.out) }
 {
@@ -203,52 +198,39 @@ fn drain<W: Write, C: Clock>(
     clock: &C,
     output: &mut W,
     chunk: &[u8],
-    number: u64,
-    refused: u64,
-    held: usize,
+    state: State,
     desk: &mut Desk,
 ) -> Kept
-    requires { (length chunk.now ≤ read_limit) × (number + read_limit + output_limit ≤ number_limit) × Ready desk.old held × (refused < number) }
-    ensures { Drains chunk.now number refused desk.old.hold held result.number result.refused desk.new.hold result.held result.sent result.end × Ready desk.new result.held }
+    requires { (length chunk.now ≤ read_limit) × (state.number + read_limit + output_limit ≤ number_limit) × Ready desk.old state.held × (state.refused < state.number) }
+    ensures { Drains chunk.now state.number state.refused desk.old.hold state.held result.state.number result.state.refused desk.new.hold result.state.held result.sent result.end × Ready desk.new result.state.held }
 {
     let mut from: usize = 0;
     let mut kept = Kept {
-        number,
-        refused,
-        held,
+        state,
         sent: 0,
         end: None,
     };
     // a piece ends where the output is full: no step of one
     while from < chunk.len() {
-        let fed = feed(chunk, from, kept.number, kept.refused, kept.held, desk);
+        let fed = feed(chunk, from, kept.state, desk);
         let taken = hand(
-            clock,
-            output,
-            chunk,
-            from,
-            fed.next,
-            kept.number,
-            kept.refused,
-            kept.held,
-            desk,
-            fed.put,
+            clock, output, chunk, from, fed.next, kept.state, desk, fed.put,
         );
         let sent = kept.sent + taken;
         if taken < fed.put {
-            let number = kept.number + lines_in(&desk.out[..taken]);
+            let number = kept.state.number + lines_in(&desk.out[..taken]);
             return Kept {
-                number,
+                state: State {
+                    number,
+                    ..kept.state
+                },
                 sent,
                 end: Some(End::Unwritten),
-                ..kept
             };
         }
         from = fed.next;
         kept = Kept {
-            number: fed.number,
-            refused: fed.refused,
-            held: fed.held,
+            state: fed.state,
             sent,
             end: None,
         };
@@ -257,33 +239,23 @@ fn drain<W: Write, C: Clock>(
 }
 
 // The input is at its end, and a line that is begun ends with it.
-fn close<W: Write, C: Clock>(
-    clock: &C,
-    output: &mut W,
-    number: u64,
-    refused: u64,
-    held: usize,
-    desk: &mut Desk,
-) -> Kept
-    requires { Ready desk.old held × (refused < number) }
-    ensures { ClosesAt number refused desk.old.hold held result.number result.refused result.sent result.end }
+fn close<W: Write, C: Clock>(clock: &C, output: &mut W, state: State, desk: &mut Desk) -> Kept
+    requires { Ready desk.old state.held × (state.refused < state.number) }
+    ensures { ClosesAt state.number state.refused desk.old.hold state.held result.state.number result.state.refused result.sent result.end }
 {
-    let last = finish(number, held, desk);
+    let last = finish(state, desk);
     let put = last.next;
-    let taken = hand_last(clock, output, number, held, desk, put);
+    let taken = hand_last(clock, output, state, desk, put);
     if taken < put {
         Kept {
-            number,
-            refused,
-            held,
+            state,
             sent: taken,
             end: Some(End::Unwritten),
         }
     } else {
+        let refused = state.refused + one_if(last.refused);
         Kept {
-            number,
-            refused: refused + one_if(last.refused),
-            held,
+            state: State { refused, ..state },
             sent: taken,
             end: Some(End::Whole),
         }
@@ -295,18 +267,16 @@ fn take_in<W: Write, C: Clock>(
     clock: &C,
     output: &mut W,
     text: &[u8],
-    number: u64,
-    refused: u64,
-    held: usize,
+    state: State,
     desk: &mut Desk,
 ) -> Kept
-    requires { (length text.now ≤ read_limit) × (number + read_limit + output_limit ≤ number_limit) × Ready desk.old held × (refused < number) }
-    ensures { Turns text.now number refused desk.old.hold held result.number result.refused desk.new result.held result.sent result.end }
+    requires { (length text.now ≤ read_limit) × (state.number + read_limit + output_limit ≤ number_limit) × Ready desk.old state.held × (state.refused < state.number) }
+    ensures { Turns text.now state.number state.refused desk.old.hold state.held result.state.number result.state.refused desk.new result.state.held result.sent result.end }
 {
     if text.is_empty() {
-        close(clock, output, number, refused, held, desk)
+        close(clock, output, state, desk)
     } else {
-        drain(clock, output, text, number, refused, held, desk)
+        drain(clock, output, text, state, desk)
     }
 }
 
@@ -316,20 +286,16 @@ fn turn<R: Read, W: Write, C: Clock>(
     input: &mut R,
     output: &mut W,
     room: &mut [u8],
-    number: u64,
-    refused: u64,
-    held: usize,
+    state: State,
     desk: &mut Desk,
 ) -> Kept
-    requires { (length room.old ≤ read_limit) × (number + read_limit + output_limit ≤ number_limit) × Ready desk.old held × (refused < number) }
-    ensures { Turns room.new number refused desk.old.hold held result.number result.refused desk.new result.held result.sent result.end }
+    requires { (length room.old ≤ read_limit) × (state.number + read_limit + output_limit ≤ number_limit) × Ready desk.old state.held × (state.refused < state.number) }
+    ensures { Turns room.new state.number state.refused desk.old.hold state.held result.state.number result.state.refused desk.new result.state.held result.sent result.end }
 {
     match receive(clock, input, room) {
-        Some(n) => take_in(clock, output, &room[..n], number, refused, held, desk),
+        Some(n) => take_in(clock, output, &room[..n], state, desk),
         None => Kept {
-            number,
-            refused,
-            held,
+            state,
             sent: 0,
             end: Some(End::Unread),
         },
@@ -345,26 +311,19 @@ fn serve<R: Read, W: Write, C: Clock>(
     desk: &mut Desk,
 ) -> Kept
     requires { (length room.old ≤ read_limit) × Ready desk.old 0 }
-    ensures { 1 ≤ result.number }
+    ensures { 1 ≤ result.state.number }
 {
     let mut kept = Kept {
-        number: 1,
-        refused: 0,
-        held: 0,
+        state: State {
+            number: 1,
+            refused: 0,
+            held: 0,
+        },
         sent: 0,
         end: None,
     };
     for _turns in 0..TURNS {
-        kept = turn(
-            clock,
-            input,
-            output,
-            room,
-            kept.number,
-            kept.refused,
-            kept.held,
-            desk,
-        );
+        kept = turn(clock, input, output, room, kept.state, desk);
         if kept.end.is_some() {
             return kept;
         }
@@ -395,9 +354,9 @@ pub fn run<R: Read, W: Write, E: Write, C: Clock>(
     let mut room = [0u8; READ];
     let mut desk = Desk::new();
     let last = serve(clock, input, output, &mut room, &mut desk);
-    let line = last.number - 1;
+    let line = last.state.number - 1;
     match last.end {
-        Some(End::Whole) => tell_refused(clock, errors, last.refused, &mut desk.out),
+        Some(End::Whole) => tell_refused(clock, errors, last.state.refused, &mut desk.out),
         Some(End::Unread) | None => tell(
             clock,
             errors,

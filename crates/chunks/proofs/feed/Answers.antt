@@ -1,4 +1,5 @@
 -- `chunks::feed` meets its contract: the line that is begun goes on past the chunk, or it ends, and lines behind it. Assumes nothing.
+use mathlib.Core.Path.{refl}
 use native.Mathlib.Omega.{arith}
 use Rattle.chunks.proofs.Room.{still_clean}
 use Rattle.chunks.proofs.Putting.{feeds_held, feeds_lines}
@@ -27,6 +28,7 @@ put_lines-requires c =
       still_clean r w.clean,
       omega (arith, r.puts.near, r.out_long, w.wide),
       omega (arith, b.3, c.one_if.ensures.1),
+      refl,
     )
 
 pub returns-then-cut : goal.returns-then-cut

@@ -7,7 +7,7 @@ use Rattle.chunks.proofs.put_lines.Goals as goal
 pub loop-fed-init : goal.loop-fed-init
 loop-fed-init c =
     let p = c.requires in
-    (goes_start _ _ _ _ _ _ p.0 p.2 p.3, refl, refl)
+    (goes_start _ _ _ _ _ _ p.0 p.2 p.3, p.5, refl)
 
 pub overflow_sub-fed : goal.overflow_sub-fed
 overflow_sub-fed c = omega (arith, c.loop-fed.invariant.0.fits, c.loop-fed.invariant.0.out_long)
@@ -23,8 +23,8 @@ put_part-entered-requires c =
     let w = c.loop-fed.invariant.0 in
     (c.line_end-end.ensures.past, c.line_end-end.ensures.within, w.clean, omega (arith, c.loop-fed-test.true, w.fits, w.out_long))
 
-pub overflow_add-total : goal.overflow_add-total
-overflow_add-total c =
+pub overflow_add-refused : goal.overflow_add-refused
+overflow_add-refused c =
     let w = c.loop-fed.invariant.0 in
     omega (arith, stays_few _ _ w.leaves c.requires.4, c.one_if.ensures.1, w.count, c.line_end-end.ensures.past, c.line_end-end.ensures.within, c.requires.1)
 
@@ -36,7 +36,7 @@ loop-fed-preserved c =
     let w = c.loop-fed.invariant.0 in (
       goes_line _ _ _ _ _ _ w c.line_end-end.ensures c.if-end-chunk.false c.put_part-entered.ensures c.one_if.ensures
           (omega (arith, c.loop-fed-test.true, w.fits, w.out_long)),
-      c.loop-fed.invariant.1,
+      refl,
       c.loop-fed.invariant.2,
     )
 

@@ -9,7 +9,7 @@ use Rattle.stream.proofs.drain.Given as goal
 abbrev pub invariant-loop-from : goal.invariant-loop-from
 invariant-loop-from g l =
     let k = l.kept in
-    ChunkTaken l.chunk l.number l.refused l.initial.desk.hold l.held l.from k.number k.refused k.held k.sent l.desk × (k.end ≡ None)
+    ChunkTaken l.chunk l.fn.state.number l.fn.state.refused l.initial.desk.hold l.fn.state.held l.from k.state.number k.state.refused k.state.held k.sent l.desk × (k.end ≡ None)
 
 abbrev pub decreases-loop-from : goal.decreases-loop-from
 decreases-loop-from g l = length l.chunk - l.from

@@ -5,4 +5,4 @@ use Rattle.stream.proofs.serve.Given as goal
 abbrev pub invariant-loop-turns : goal.invariant-loop-turns
 invariant-loop-turns g l =
     let k = l.kept in
-    Serves l.initial.room l.room l.desk k.number k.refused k.held l._turns
+    Serves l.initial.room l.room l.desk k.state.number k.state.refused k.state.held l._turns

@@ -29,10 +29,10 @@ pub const OUTPUT: usize = 3 * ENTRY;
 // What every part of a chunk is taken in with: the bytes that are held of a line, the sheet and the two areas in which a line is judged, and the output.
 #[derive(Drop)]
 pub struct Desk {
-    pub hold: [u8; HOLD],
     pub sheet: Sheet,
-    pub bytes: Bytes,
     pub numbers: Numbers,
+    pub bytes: Bytes,
+    pub hold: [u8; HOLD],
     pub out: [u8; OUTPUT],
 }
 
@@ -42,16 +42,17 @@ impl Desk {
         ensures { Ready result 0 }
     {
         Desk {
-            hold: [0; HOLD],
             sheet: Sheet::new(),
-            bytes: [0; Tables::BYTES],
             numbers: [0; Tables::NUMBERS],
+            bytes: [0; Tables::BYTES],
+            hold: [0; HOLD],
             out: [0; OUTPUT],
         }
     }
 }
 
 // A chunk cut behind the end of a line, or at its own: where the next byte stands, and how many bytes are held of the line.
+// A flag and not two cases: both have the same two numbers, and what is said of them (`Cuts`) takes the flag on to the state behind the cut.
 #[derive(Clone, Copy, Debug, PartialEq, Eq)]
 struct Cut {
     next: usize,

@@ -158,7 +158,7 @@ fn fill_room(room: &mut [u8], content: &[u8])
     ensures { room.new ≡ padded 0 content_room content.now }
 {
     room.fill(0);
-    room[..content.len()].copy_from_slice(content);
+    copies::copy(content, &mut room[..content.len()]);
 }
 
 // The content, and zeros behind it.

@@ -300,7 +300,7 @@ fn put_name(i: usize, out: &mut [u8], at: usize) -> usize
 {
     let name = sugar_at(i).name;
     let start = at - name.len();
-    out[start..at].copy_from_slice(name);
+    copies::copy(name, &mut out[start..at]);
     start
 }
 

@@ -3,4 +3,4 @@ use Rattle.glycans.proofs.Putting.{put_copied}
 use Rattle.glycans.proofs.put_name.Goals as goal
 
 pub returns : goal.returns
-returns c = rw (c.copy_from_slice.ensures.after, c.sugar_at.ensures.0) (put_copied c.requires)
+returns c = rw (c.copy.ensures, c.sugar_at.ensures.0) (put_copied c.requires)

@@ -5,7 +5,7 @@ ghost use Rattle.std.specs.Prelude.{◌≡◌, ◌+◌, ◌*◌, ◌<◌, ◌≤
 ghost use Rattle.std.proofs.lemmas.List.Edits.{sets};
 ghost use Rattle.scope.specs.Bytes.{byte_limit, wide_limit};
 ghost use Rattle.scope.specs.Limits.{residue_limit, bracket_limit, part_limit, place_limit, position_limit};
-ghost use Rattle.scope.specs.Layout.{residues_at, letters_at, sections_at, row_at, count_at, part_at, places_at, site_at, mass_at, two_bytes, counts_row, head_row, part_fields, byte_at, wide_at, residues_field, brackets_field, letter_field, section_field, kind_field, first_field, last_field, count_field, parts_field, score_field, value_field, key_field, decimals_field, text_field, label_field, offset_field, places_field, site_field, mass_field, score_number};
+ghost use Rattle.scope.specs.Layout.{bytes_size, residues_at, letters_at, sections_at, row_at, count_at, part_at, places_at, site_at, mass_at, two_bytes, counts_row, head_row, part_fields, byte_at, wide_at, residues_field, brackets_field, letter_field, section_field, kind_field, first_field, last_field, count_field, parts_field, score_field, value_field, key_field, decimals_field, text_field, label_field, offset_field, places_field, site_field, mass_field, score_number};
 
 use scope::answers::Placement;
 use scope::tables::Tables;
@@ -79,7 +79,7 @@ fn places_at(k: usize) -> usize
 
 // ---- reading
 
-fn byte(bytes: &Bytes, at: usize) -> usize
+fn byte(bytes: &[u8], at: usize) -> usize
     requires { at < length bytes.now }
     ensures { (result ≡ byte_at bytes.now at) × (result < byte_limit) }
 {
@@ -148,8 +148,8 @@ pub fn last(bytes: &Bytes, k: usize) -> usize
 }
 
 // Its count.
-pub fn count(bytes: &Bytes, k: usize) -> usize
-    requires { k < bracket_limit }
+pub fn count(bytes: &[u8], k: usize) -> usize
+    requires { (bytes_size ≤ length bytes.now) × (k < bracket_limit) }
     ensures { (result ≡ count_field bytes.now k) × (result < byte_limit) }
 {
     byte(bytes, row_at(k) + COUNT)
@@ -271,8 +271,8 @@ pub fn put_counts(bytes: &mut Bytes, residues: usize, brackets: usize)
 }
 
 // The letter of residue i and the code of its section.
-pub fn put_residue(bytes: &mut Bytes, i: usize, letter: u8, section: u8)
-    requires { i < residue_limit }
+pub fn put_residue(bytes: &mut [u8], i: usize, letter: u8, section: u8)
+    requires { (bytes_size ≤ length bytes.old) × (i < residue_limit) }
     ensures { bytes.new ≡ set (set bytes.old (letters_at + i) letter) (sections_at + i) section }
 {
     bytes[Tables::LETTERS + i] = letter;
@@ -303,16 +303,16 @@ pub fn put_head(
 }
 
 // Its kind alone.
-pub fn put_kind(bytes: &mut Bytes, k: usize, kind: u8)
-    requires { k < bracket_limit }
+pub fn put_kind(bytes: &mut [u8], k: usize, kind: u8)
+    requires { (bytes_size ≤ length bytes.old) × (k < bracket_limit) }
     ensures { bytes.new ≡ set bytes.old (row_at k) kind }
 {
     bytes[row_at(k)] = kind;
 }
 
 // Its count alone.
-pub fn put_count(bytes: &mut Bytes, k: usize, count: u8)
-    requires { k < bracket_limit }
+pub fn put_count(bytes: &mut [u8], k: usize, count: u8)
+    requires { (bytes_size ≤ length bytes.old) × (k < bracket_limit) }
     ensures { bytes.new ≡ set bytes.old (count_at k) count }
 {
     bytes[row_at(k) + COUNT] = count;

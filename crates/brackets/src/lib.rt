@@ -36,7 +36,7 @@ pub fn parts(bytes: &Bytes, k: usize) -> usize
 
 // The count.
 #[tactic(auto, unfolding(scope::specs::Layout::bracket_in))]
-pub fn count(bytes: &Bytes, k: usize) -> usize
+pub fn count(bytes: &[u8], k: usize) -> usize
     requires { Row bytes.now k }
     ensures { ((ns : List ℤ) → result ≡ (bracket_in bytes.now ns k).count) × (result < byte_limit) }
 {

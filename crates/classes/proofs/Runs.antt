@@ -10,9 +10,7 @@ use borrow.Author.Tests.{ltb-true, ltb-false}
 use lib.ListN.{length, get_or, take, drop, drop_of_length-le, length-drop}
 use mathlib.Core.Logic.{◌⊎◌, inl, inr}
 use lib.Seq.{drop-cons, get_or-drop, take-length}
-use Rattle.std.specs.Prelude.{Option, MatchOption, HoldsAt, unwrap_or}
-use Rattle.std.specs.List.{AllWithin, slice_range}
-use Rattle.std.proofs.lemmas.Iterator.{index_from_first}
+use Rattle.std.specs.List.{slice_range}
 use Rattle.classes.specs.Runs.{span}
 
 module _ (p : ℕ → Bool) (s : List ℕ) (i : ℕ) where
@@ -29,7 +27,7 @@ module _ (p : ℕ → Bool) (s : List ℕ) (i : ℕ) where
     unfolding span
     span_more e = rw (drop-cons s i 0 h, add-one i, e, span) (omega arith)
 
--- ---- the loop `while i < s.len() { if class(s[i]) { i += 1 } else { return i } } i`, from the place `at` on
+-- ---- a loop from the place `at` on, as long as the byte at i is of the class
 -- its invariant: the bytes of the class that start at i end where those that start at `at` do
 pub record RunGoesOn (p : ℕ → Bool) (s : List ℕ) (at i : ℕ) : Type 0 where
   pub same_end : i + span p (drop i s) ≡ at + span p (drop at s)
@@ -56,14 +54,6 @@ range_to_end s at = ap (λ n. take n (drop at s)) (sym (length-drop at s)) ∙ t
 pub past_end : {at n : ℕ} → ◌⊎◌ (n < at) (n < n) → n ≤ at
 past_end (inl h) = omega arith
 past_end (inr h) = absurd (omega arith)
-
--- the first byte that is not of the class, or the end of the list
-pub span_found : (p : ℕ → Bool) (xs : List ℕ) (r : Option ℕ)
-    → MatchOption r (AllWithin (λ b. p b ≡ true) xs 0 (length xs)) (λ i. (i < length xs) × HoldsAt (λ b. p b ≡ false) xs i × AllWithin (λ b. p b ≡ true) xs 0 i)
-    → span p xs ≡ unwrap_or r (length xs)
-unfolding span
-span_found p xs r f =
-    index_from_first (span p) (λ b. p b ≡ false) (λ b. p b ≡ true) refl (λ x l e. rw e) (λ x l e. rw (e, add-one)) xs r f
 
 -- ---- where a run ends
 pub span_le : (p : ℕ → Bool) (l : List ℕ) → span p l ≤ length l

@@ -73,10 +73,12 @@ pub fn run_end<F: Fn(u8) -> bool>(line: &[u8], at: usize, class: F) -> usize
     requires { F.IsAlwaysCallable class }
     ensures { (p : ℕ → Bool) → ((b : ℕ) (x : Bool) → F.post class b x → x ≡ p b) → result ≡ at + span p (drop at line.now) }
 {
-    match line.get(at..) {
-        Some(rest) => at + rest.iter().position(|b| !class(*b)).unwrap_or(rest.len()),
-        None => at,
+    for to in at..line.len() {
+        if !class(line[to]) {
+            return to;
+        }
     }
+    at.max(line.len())
 }
 
 // Where the plain bytes that start at `at` end.

@@ -75,7 +75,8 @@ impl<'a> Area<'a> {
         ensures { result.now ≡ block_at self.now.bytes.now b }
     {
         let at = b * Block::SIZE;
-        self.bytes[at..].first_chunk().unwrap()
+        // the slice has a block's length, so that the test of unwrap goes when it is compiled
+        self.bytes[at..at + Block::SIZE].first_chunk().unwrap()
     }
 
     // Its kind.

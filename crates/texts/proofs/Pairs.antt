@@ -13,8 +13,7 @@ use Rattle.classes.specs.Runs.{span}
 use Rattle.classes.proofs.Runs.{run_next}
 use Rattle.std.specs.Prelude.{None}
 use Rattle.std.specs.Prelude.{Option as Perhaps}
-use Rattle.std.specs.Option.{option_or}
-use Rattle.texts.specs.Texts.{scan_text, told, Told, ended, stuck_at, scan_deep, deeper, entered, is_outer, is_inner, Closed}
+use Rattle.texts.specs.Texts.{scan_text, told, Told, ended, stuck_at, reached, lost_at, scan_deep, deeper, entered, is_outer, is_inner, Closed}
 use Rattle.texts.proofs.Firsts.{deeper_not, deeper_opens}
 use Rattle.texts.proofs.Steps.{shut_not_open, outer_step, outer_quiet, scan_run, scan_at, scan_end}
 use Rattle.texts.proofs.Told.{text_told}
@@ -109,14 +108,13 @@ module _ (s : List ℕ) (at : ℕ) (hashes : Bool) where
       pub text_ends : is_opening (get_or s i 0) ≡ false → ended i deep ≡ text
       text_ends o = sym (v.reads ∙ outer_stops s i l hashes (v.pause l) deep o) ∙ text_told hashes s at
 
-      -- x closes the pair that is opened at i
-      module _ (o : is_opening (get_or s i 0) ≡ true) (x : ℕ) (m : x ≡ closer_of (get_or s i 0)) (j : ℕ) where
+      -- x closes the pair that is opened at i, and y is what is told behind that
+      module _ (o : is_opening (get_or s i 0) ≡ true) (x : ℕ) (m : x ≡ closer_of (get_or s i 0)) (y : Perhaps ℕ) (j : ℕ) where
         opened : scan_deep hashes [] (drop at s) at None ≡ scan_deep hashes (x ∷ []) (drop (i + 1) s) (i + 1) (entered 0 (i + 1) deep)
         opened = v.reads ∙ outer_opens s i l hashes (v.pause l) deep o x m
 
-        pub text_behind : (y : Perhaps ℕ) → Closed s (i + 1) x 0 (ended j y) → (z : Perhaps ℕ) → z ≡ option_or deep y → (k : ℕ) → k ≡ j + span (is_outer hashes) (drop j s)
-            → Outside s at hashes k z
-        text_behind y p z f k e = passed j k z (opened ∙ p.reads hashes [] deep refl ∙ ap (scan_deep hashes [] (drop j s) j) (sym f)) e
+        pub text_behind : Closed s (i + 1) x 0 deep y (reached j) → (k : ℕ) → k ≡ j + span (is_outer hashes) (drop j s) → Outside s at hashes k y
+        text_behind p k e = passed j k y (opened ∙ p.reads hashes [] refl) e
 
-        pub text_lost : Closed s (i + 1) x 0 (stuck_at j) → stuck_at j ≡ text
-        text_lost p = sym (opened ∙ p.reads hashes [] deep refl) ∙ text_told hashes s at
+        pub text_lost : Closed s (i + 1) x 0 deep y (lost_at j) → stuck_at j ≡ text
+        text_lost p = sym (opened ∙ p.reads hashes [] refl) ∙ text_told hashes s at

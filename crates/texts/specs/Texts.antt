@@ -71,34 +71,40 @@ unfoldable pub scan_deep : Bool → List ℕ → List ℕ → ℕ → Perhaps �
 scan_deep hashes cs [] i d = stopped_deep cs i d
 scan_deep hashes cs (b ∷ l) i d = given (text_step hashes cs b) (λ cs'. scan_deep hashes cs' l (i + 1) (deeper cs b i d)) (stopped_deep cs i d)
 
+-- where a pair is closed: the place behind its closer, or where one is stuck in it
+abbrev pub Reached : Type 0
+Reached = Result ℕ Stuck
+
+abbrev pub reached : ℕ → Reached
+reached j = Ok j
+
+abbrev pub lost_at : ℕ → Reached
+lost_at i = Err (record { at = i })
+
 -- reading on behind a pair
-abbrev pub behind : Told → (ℕ → Perhaps ℕ → Told) → Told
-behind (Ok r) go = go r.to r.deep
+abbrev pub behind : Reached → (ℕ → Told) → Told
+behind (Ok j) go = go j
 behind (Err e) go = Err e
 
-abbrev pub EndsPast : Told → ℕ → ℕ → Type 0
-EndsPast (Ok r) at n = (at < r.to) × (r.to ≤ n)
+abbrev pub EndsPast : Reached → ℕ → ℕ → Type 0
+EndsPast (Ok j) at n = (at < j) × (j ≤ n)
 EndsPast (Err e) at n = Unit {0}
 
 -- what is told behind the byte before `at`, which opens a pair with so many around it
 unfoldable pub entered : ℕ → ℕ → Perhaps ℕ → Perhaps ℕ
 entered level at d = cond (leb depth_limit level) (option_or d (Some (at - 1))) d
 
--- r says where the pair that c closes is closed, read from at, with so many pairs around it, whatever closes these
-pub record Closed (s : List ℕ) (at c level : ℕ) (r : Told) : Type 0 where
-  pub reads : (hashes : Bool) (cs : List ℕ) (d : Perhaps ℕ) → length cs ≡ level
-      → scan_deep hashes (c ∷ cs) (drop at s) at (entered level at d) ≡ behind r (λ j x. scan_deep hashes cs (drop j s) j (option_or d x))
+-- r says where the pair that c closes is closed, read from at, with so many pairs around it, whatever closes these; d is the first place that is told before it, and e the
+-- first one behind it
+pub record Closed (s : List ℕ) (at c level : ℕ) (d e : Perhaps ℕ) (r : Reached) : Type 0 where
+  pub reads : (hashes : Bool) (cs : List ℕ) → length cs ≡ level
+      → scan_deep hashes (c ∷ cs) (drop at s) at (entered level at d) ≡ behind r (λ j. scan_deep hashes cs (drop j s) j e)
   pub past : EndsPast r at (length s)
-
-abbrev pub TellsAt : Told → ℕ → Type 0
-TellsAt (Ok r) at = r.deep ≡ Some (at - 1)
-TellsAt (Err e) at = Unit {0}
 
 -- the same of a pair that is too deep: with its place, or one before it, nothing in it is told
-pub record Crowded (s : List ℕ) (at c : ℕ) (r : Told) : Type 0 where
-  pub reads : (hashes : Bool) (cs : List ℕ) (d : Perhaps ℕ) → (d ≡ None → ⊥) → scan_deep hashes (c ∷ cs) (drop at s) at d ≡ behind r (λ j x. scan_deep hashes cs (drop j s) j d)
+pub record Crowded (s : List ℕ) (at c : ℕ) (r : Reached) : Type 0 where
+  pub reads : (hashes : Bool) (cs : List ℕ) (d : Perhaps ℕ) → (d ≡ None → ⊥) → scan_deep hashes (c ∷ cs) (drop at s) at d ≡ behind r (λ j. scan_deep hashes cs (drop j s) j d)
   pub past : EndsPast r at (length s)
-  pub tells : TellsAt r at
 
 -- a bit keeps a closer: the one that the last bit of a number stands for
 abbrev pub last_of : ℕ → ℕ

@@ -33,43 +33,48 @@ pub fn text_end(line: &[u8], at: usize, hashes: bool) -> Result<TextEnd, Stuck>
     let mut to = outer_end(line, at, hashes);
     // each turn jumps behind a whole pair
     while to < line.len() && classes::is_opening(line[to]) {
-        let pair = pair_end(line, to + 1, closer_of(line[to]), 0)?;
-        deep = deep.or(pair.deep);
-        to = outer_end(line, pair.to, hashes);
+        let end = pair_end(line, to + 1, closer_of(line[to]), 0, &mut deep)?;
+        to = outer_end(line, end, hashes);
     }
     Ok(TextEnd { to, deep })
 }
 
-// From inside a pair that `closer` closes, with `level` pairs around it: the place behind its closer. Each pair within is read by a call.
-fn pair_end(line: &[u8], at: usize, closer: u8, level: usize) -> Result<TextEnd, Stuck>
+// From inside a pair that `closer` closes, with `level` pairs around it: the place behind its closer. Each pair within is read by a call. `deep` is the first place
+// of the text at which a pair is too deep, once one has been met.
+fn pair_end(
+    line: &[u8],
+    at: usize,
+    closer: u8,
+    level: usize,
+    deep: &mut Option<usize>,
+) -> Result<usize, Stuck>
     requires { (is_shutting closer ≡ true) × (0 < at) }
-    ensures { Closed line.now at closer level result }
+    ensures { Closed line.now at closer level deep.old deep.new result }
 {
     if LEVELS <= level {
+        *deep = deep.or(Some(at - 1));
         return crowd_end(line, at, closer);
     }
-    let mut deep = None;
     let mut i = inner_end(line, at);
     // each turn jumps behind a whole pair
     while i < line.len() {
         let b = line[i];
         if b == closer {
-            return Ok(TextEnd { to: i + 1, deep });
+            return Ok(i + 1);
         }
         if !classes::is_opening(b) {
             return Err(Stuck { at: i });
         }
-        let pair = pair_end(line, i + 1, closer_of(b), level + 1)?;
-        deep = deep.or(pair.deep);
-        i = inner_end(line, pair.to);
+        let end = pair_end(line, i + 1, closer_of(b), level + 1, deep)?;
+        i = inner_end(line, end);
     }
     Err(Stuck { at: i })
 }
 
 // The same, for a pair that is too deep: a call for each within would take too much stack. `next` closes the innermost pair that stands open; the closers of
 // the `n` pairs around it are kept in a table, a bit each, the innermost one last. The table is full only in a line that is too long: there a pair is read by a call.
-fn crowd_end(line: &[u8], at: usize, closer: u8) -> Result<TextEnd, Stuck>
-    requires { (is_shutting closer ≡ true) × (0 < at) }
+fn crowd_end(line: &[u8], at: usize, closer: u8) -> Result<usize, Stuck>
+    requires { is_shutting closer ≡ true }
     ensures { Crowded line.now at closer result }
 {
     let mut owed = [0u8; KEPT];
@@ -81,10 +86,7 @@ fn crowd_end(line: &[u8], at: usize, closer: u8) -> Result<TextEnd, Stuck>
         let b = line[i];
         if b == next {
             if n == 0 {
-                return Ok(TextEnd {
-                    to: i + 1,
-                    deep: Some(at - 1),
-                });
+                return Ok(i + 1);
             }
             n -= 1;
             let k = n / BITS;
@@ -100,7 +102,8 @@ fn crowd_end(line: &[u8], at: usize, closer: u8) -> Result<TextEnd, Stuck>
             next = closer_of(b);
             i = inner_end(line, i + 1);
         } else {
-            i = inner_end(line, crowd_end(line, i + 1, closer_of(b))?.to);
+            let end = crowd_end(line, i + 1, closer_of(b))?;
+            i = inner_end(line, end);
         }
     }
     Err(Stuck { at: i })
@@ -140,13 +143,13 @@ fn is_outer(b: u8, hashes: bool) -> bool
     classes::is_plain(b) || b == b':' || hashes && b == b'#'
 }
 
-// A byte that leaves a text as it is, inside a pair. Openings and closers are asked for before other bytes for speed: nested pairs are made of them.
+// A byte that leaves a text as it is, inside a pair.
 #[tactic(auto, using(crate::proofs::Steps::letter_inner), unfolding(crate::specs::Texts::is_inner))]
 fn is_inner(b: u8) -> bool
     ensures { result ≡ is_inner b }
 {
     classes::is_letter(b)
-        || !classes::is_opening(b) && !classes::is_shutting(b) && classes::is_printable(b)
+        || classes::is_printable(b) && !classes::is_shutting(b) && !classes::is_opening(b)
 }
 
 fn outer_end(line: &[u8], at: usize, hashes: bool) -> usize

@@ -8,7 +8,7 @@ abbrev pub decreases-pair_end : goal.decreases-pair_end
 decreases-pair_end l = length l.line.now - l.at
 
 abbrev pub invariant-loop-i : goal.invariant-loop-i
-invariant-loop-i l = Alone l.line l.at l.closer l.level l.i l.deep
+invariant-loop-i l = Alone l.line l.at l.closer l.level l.initial.deep l.i l.deep
 
 abbrev pub decreases-loop-i : goal.decreases-loop-i
 decreases-loop-i l = length l.line - l.i

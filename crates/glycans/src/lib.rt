@@ -211,7 +211,8 @@ impl Cutting {
     const SCALE: u64 = 100;
 }
 
-// The bytes from `from` to `to`, where they are a composition.
+// The bytes from `from` to `to`, where they are a composition. Inlined: a text that is none is often known by its last bytes, before a call has paid.
+#[inline]
 pub fn cut(line: &[u8], from: usize, to: usize) -> Option<Cutting>
     requires { (from ≤ to) × (to ≤ length line.now) }
     ensures { CutIs (part from (to - from) line.now) result }

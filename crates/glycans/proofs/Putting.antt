@@ -8,7 +8,7 @@ use Rattle.scope.specs.Glycans.{Item, sugars, name_at, item_text, cuttings, shor
 use Rattle.basics.specs.Each.{each_back}
 use Rattle.basics.specs.Lists.{flat_cons, flat_snoc, flat_map}
 use Rattle.glycan_laws.specs.Laws.{ItemGood, Cuts}
-use Rattle.glycan_laws.proofs.Last.{last_item, one_way}
+use Rattle.glycan_laws.proofs.Last.{last_item, nothing_last, one_way}
 use Rattle.glycan_laws.proofs.Rightward.{last_off, last_always, none_last}
 use Rattle.glycans.specs.Cut.{back, digits_text, piece_text, PieceAt, short_of, Room, PutBefore}
 use Rattle.glycans.specs.Pieces.{piece_bytes, pieces_of}
@@ -149,6 +149,11 @@ module _ {f : Item → List ℕ} {w area : List ℕ} {at : ℕ} {rest cur : List
       let c : Cuts h.left [] = subst (λ r. Cuts h.left r) (none_last rest e h.left h.cuts) h.cuts in
       let none : h.left ≡ [] = one_way [] h.left [] c cut_nothing in
       subst (λ z. PutBefore area at z cur a) (sym (h.whole ∙ ap (λ x. flat f x ++ flat f h.behind) none)) h.put
+
+-- of nothing no piece is the last
+pub empty_last : (rest : List ℕ) → length rest ≡ 0 → last_item (back rest) ≡ none
+empty_last [] z = nothing_last
+empty_last (b ∷ rest) z = absurd (omega (arith, z))
 
 -- ---- the short text
 abbrev pub short_item : Item → List ℕ

@@ -222,22 +222,19 @@ pub fn cut(line: &[u8], from: usize, to: usize) -> Option<Cutting>
     let mut mass: u64 = 0;
     let mut pieces: usize = 0;
     // from the right: what is left of the text is a piece shorter each turn
-    while let Some(p) = last_piece(rest) {
+    while !rest.is_empty() {
+        let p = last_piece(rest)?;
         let s = sugar_at(p.name);
         size += s.name.len() + digits(p.count);
         mass = added(mass, u64::from(p.count) * s.mass);
         pieces += 1;
         rest = &rest[..p.start];
     }
-    if rest.is_empty() {
-        Some(Cutting {
-            size,
-            mass: mass * Cutting::SCALE,
-            pieces,
-        })
-    } else {
-        None
-    }
+    Some(Cutting {
+        size,
+        mass: mass * Cutting::SCALE,
+        pieces,
+    })
 }
 
 // How many digits are written of a count.
@@ -337,7 +334,9 @@ fn put_pieces(text: &[u8], out: &mut [u8], n: usize)
     let mut rest = text;
     let mut a = n;
     // from the right: what is left of the text is a piece shorter each turn
-    while let Some(p) = last_piece(rest) {
+    while !rest.is_empty()
+        && let Some(p) = last_piece(rest)
+    {
         a -= Piece::BYTES;
         out[a] = p.name as u8;
         out[a + 1] = p.count;

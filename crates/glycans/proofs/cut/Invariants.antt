@@ -4,8 +4,8 @@ use Rattle.scope.specs.Lists.{part}
 use Rattle.glycans.proofs.Ways.{SoFar}
 use Rattle.glycans.proofs.cut.Given as goal
 
-abbrev pub invariant-loop-p : goal.invariant-loop-p
-invariant-loop-p l = SoFar (part l.from (l.to - l.from) l.line) l.rest l.size l.mass l.pieces
+abbrev pub invariant-loop-rest : goal.invariant-loop-rest
+invariant-loop-rest l = SoFar (part l.from (l.to - l.from) l.line) l.rest l.size l.mass l.pieces
 
-abbrev pub decreases-loop-p : goal.decreases-loop-p
-decreases-loop-p l = length l.rest
+abbrev pub decreases-loop-rest : goal.decreases-loop-rest
+decreases-loop-rest l = length l.rest

@@ -5,8 +5,8 @@ use Rattle.glycans.specs.Pieces.{piece_bytes, pieces_of}
 use Rattle.glycans.proofs.Putting.{Putting}
 use Rattle.glycans.proofs.put_pieces.Given as goal
 
-abbrev pub invariant-loop-p : goal.invariant-loop-p
-invariant-loop-p l = Putting piece_bytes (pieces_of (cuttings l.text)) l.initial.out l.n l.rest l.out l.a
+abbrev pub invariant-loop-rest : goal.invariant-loop-rest
+invariant-loop-rest l = Putting piece_bytes (pieces_of (cuttings l.text)) l.initial.out l.n l.rest l.out l.a
 
-abbrev pub decreases-loop-p : goal.decreases-loop-p
-decreases-loop-p l = length l.rest
+abbrev pub decreases-loop-rest : goal.decreases-loop-rest
+decreases-loop-rest l = length l.rest
